@@ -1,0 +1,4 @@
+// Memories of 24-bit words in the spaces X, Y and P: the interface `Memory`, and the memories that meet it.
+pub mod interface;
+pub mod place;
+pub mod refusal;

@@ -1,0 +1,36 @@
+// Why a call is refused, and what a memory tells about its refusal.
+ghost use mathlib.Core.Path.{_≡_};
+ghost use Rattle.memory.specs.Refusals.{number};
+use crate::place::Owner;
+use crate::place::OwnerDebug;
+use crate::place::OwnerPartialEq;
+use crate::place::Place;
+use crate::place::PlaceDebug;
+use crate::place::PlacePartialEq;
+
+// Every refusal has a number, by which consoles and their engineers know it.
+#[derive(Clone, Copy, PartialEq, Eq, Debug)]
+pub enum Refusal {
+    ValueTooLarge = 2,
+    AbsentLoad = 13,
+    AbsentStore = 14,
+    FixedStore = 15,
+    NoForm = 16,
+    UnfitSizes = 18,
+}
+
+impl Refusal {
+    pub fn code(self) -> u8
+        ensures value { λ r. ⌜ r ≡ number self ⌝ }
+    {
+        self as u8
+    }
+}
+
+// A memory's refusal: the cause, the place that was asked for and its owner.
+#[derive(Clone, Copy, PartialEq, Eq, Debug)]
+pub struct Fault {
+    pub cause: Refusal,
+    pub place: Place,
+    pub owner: Owner,
+}
