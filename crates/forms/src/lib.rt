@@ -1,0 +1,3 @@
+// The script language: its forms, and reading one line of a script.
+pub mod form;
+pub mod reading;
