@@ -1,0 +1,4 @@
+pub mod BorderStores
+pub mod FlatStores
+pub mod PackedStores
+pub mod Stores

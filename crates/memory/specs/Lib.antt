@@ -1,2 +1,5 @@
-pub mod Refusals
+pub mod Border
+pub mod Flat
 pub mod Meaning
+pub mod Packed
+pub mod Refusals

@@ -42,14 +42,21 @@ abbrev pub load-answer : Meaning → Place → Result ℕ Fault
 load-answer m p = elim (m .kind p) [ Absent ↦ Err (fault m AbsentLoad p) | Fixed ↦ Ok (m .word p) | Plain ↦ Ok (m .word p) ]
 
 -- a word that is too large is refused first, whatever the place is
+abbrev pub may-store : Kind → ℕ → Result (Unit {0}) Refusal
+may-store k w =
+    cond (ltb 0xFFFFFF w) (Err ValueTooLarge)
+    (elim k [ Absent ↦ Err AbsentStore | Fixed ↦ Err FixedStore | Plain ↦ Ok tt ])
+
 abbrev pub store-answer : Meaning → Place → ℕ → Result (Unit {0}) Fault
-store-answer m p w =
-    cond (ltb 0xFFFFFF w) (Err (fault m ValueTooLarge p))
-    (elim (m .kind p) [ Absent ↦ Err (fault m AbsentStore p) | Fixed ↦ Err (fault m FixedStore p) | Plain ↦ Ok tt ])
+store-answer m p w = elim (may-store (m .kind p) w) [ Ok u ↦ Ok tt | Err cause ↦ Err (fault m cause p) ]
 
 -- one word put at one place; all else stands
 abbrev pub put : Meaning → Place → ℕ → Meaning
 put m p w = record { kind = m .kind; word = λ q. cond (same-place p q) w (m .word q); owner = m .owner }
 
 abbrev pub after-store : Meaning → Place → ℕ → Meaning
-after-store m p w = elim (store-answer m p w) [ Ok u ↦ put m p w | Err f ↦ m ]
+after-store m p w = elim (may-store (m .kind p) w) [ Ok u ↦ put m p w | Err cause ↦ m ]
+
+-- a memory that is absent everywhere
+abbrev pub nowhere : Owner → Meaning
+nowhere o = record { kind = λ p. Absent; word = λ p. 0; owner = λ p. o }

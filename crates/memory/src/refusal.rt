@@ -1,6 +1,8 @@
 // Why a call is refused, and what a memory tells about its refusal.
 ghost use mathlib.Core.Path.{_≡_};
+ghost use Rattle.memory.specs.Meaning.{may-store};
 ghost use Rattle.memory.specs.Refusals.{number};
+use crate::place::Kind;
 use crate::place::Owner;
 use crate::place::OwnerDebug;
 use crate::place::OwnerPartialEq;
@@ -33,4 +35,18 @@ pub struct Fault {
     pub cause: Refusal,
     pub place: Place,
     pub owner: Owner,
+}
+
+// Whether a word can be stored at a place of this kind; a word that is too large is refused whatever the place is.
+pub fn may_store(kind: Kind, word: u32) -> Result<(), Refusal>
+    ensures value { λ r. ⌜ r ≡ may-store kind word ⌝ }
+{
+    if word > 0xFF_FFFF {
+        return Err(Refusal::ValueTooLarge);
+    }
+    match kind {
+        Kind::Absent => Err(Refusal::AbsentStore),
+        Kind::Fixed => Err(Refusal::FixedStore),
+        Kind::Plain => Ok(()),
+    }
 }

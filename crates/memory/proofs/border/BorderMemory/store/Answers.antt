@@ -1,0 +1,18 @@
+use mathlib.Core.Path.{ap, _∙_}
+use Rattle.memory.specs.Border.{deepened, border-of}
+use Rattle.memory.proofs.BorderStores.{store-above, answer-above}
+use Rattle.memory.proofs.border.BorderMemory.store.Needs as need
+
+pub returns-else-place-self : need.returns-else-place-self
+returns-else-place-self g c =
+    let m = c .args .self .now in
+    let low = g .Low·Memory .meaning (m .low) in
+    let high = g .High·Memory .meaning (m .high) in
+    let p = c .args .place in
+    let w = c .args .word in
+    let stored = c .store-else-place-self .ensures in
+    let above = c .if-place-self .left in
+    record {
+      value = c .deepened-else-place-self .ensures .value ∙ ap deepened (stored .value) ∙ answer-above (m .border) low high p w above;
+      after = ap (border-of (m .border) low) (stored .after) ∙ store-above (m .border) low high p w above;
+    }
