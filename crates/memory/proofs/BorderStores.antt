@@ -32,9 +32,9 @@ module _ (b : ℕ) (low high : Meaning) (p : Place) (w : ℕ) (above : b ≤ p .
   leaves-above (Ok u) = put-above
   leaves-above (Err cause) = refl
 
-  pub store-above : border-of b low (after-store high p w) ≡ after-store (border-of b low high) p w
+  pub store-above : (n : Meaning) → n ≡ after-store high p w → border-of b low n ≡ after-store (border-of b low high) p w
   unfolding leaves
-  store-above = leaves-above (may-store (high .kind p) w) ∙ ap (λ k. leaves (may-store k w) (border-of b low high)) kind-above
+  store-above n e = ap (border-of b low) e ∙ leaves-above (may-store (high .kind p) w) ∙ ap (λ k. leaves (may-store k w) (border-of b low high)) kind-above
 
   answers : Result (Unit {0}) Refusal → Meaning → Result (Unit {0}) Fault
   answers r m = elim r [ Ok u ↦ Ok tt | Err cause ↦ Err (fault m cause p) ]
@@ -44,6 +44,6 @@ module _ (b : ℕ) (low high : Meaning) (p : Place) (w : ℕ) (above : b ≤ p .
   answers-above (Ok u) = refl
   answers-above (Err cause) = ap (λ o. Err (record { cause = cause; place = p; owner = deeper o })) (sym (cond-false _ _ _ (le-ltb (p .address) b above)))
 
-  pub answer-above : deepened (store-answer high p w) ≡ store-answer (border-of b low high) p w
+  pub answer-above : (r : Result (Unit {0}) Fault) → r ≡ store-answer high p w → deepened r ≡ store-answer (border-of b low high) p w
   unfolding answers
-  answer-above = answers-above (may-store (high .kind p) w) ∙ ap (λ k. answers (may-store k w) (border-of b low high)) kind-above
+  answer-above r e = ap deepened e ∙ answers-above (may-store (high .kind p) w) ∙ ap (λ k. answers (may-store k w) (border-of b low high)) kind-above

@@ -5,3 +5,6 @@ pub mod interface;
 pub mod packed;
 pub mod place;
 pub mod refusal;
+
+#[cfg(test)]
+mod tests;

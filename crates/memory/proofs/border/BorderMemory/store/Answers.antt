@@ -1,5 +1,4 @@
-use mathlib.Core.Path.{ap, _∙_}
-use Rattle.memory.specs.Border.{deepened, border-of}
+use mathlib.Core.Path.{_∙_}
 use Rattle.memory.proofs.BorderStores.{store-above, answer-above}
 use Rattle.memory.proofs.border.BorderMemory.store.Needs as need
 
@@ -13,6 +12,6 @@ returns-else-place-self g c =
     let stored = c .store-else-place-self .ensures in
     let above = c .if-place-self .left in
     record {
-      value = c .deepened-else-place-self .ensures .value ∙ ap deepened (stored .value) ∙ answer-above (m .border) low high p w above;
-      after = ap (border-of (m .border) low) (stored .after) ∙ store-above (m .border) low high p w above;
+      value = c .deepened-else-place-self .ensures .value ∙ answer-above (m .border) low high p w above _ (stored .value);
+      after = store-above (m .border) low high p w above _ (stored .after);
     }
