@@ -1,0 +1,2 @@
+// A whole script: its lines, the answer to each from a memory, and the listing that they make.
+pub mod lines;
