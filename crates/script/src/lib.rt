@@ -1,2 +1,4 @@
 // A whole script: its lines, the answer to each from a memory, and the listing that they make.
+pub mod answer;
+pub mod hexadecimal;
 pub mod lines;
