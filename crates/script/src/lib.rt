@@ -2,3 +2,4 @@
 pub mod answer;
 pub mod hexadecimal;
 pub mod lines;
+pub mod listing;

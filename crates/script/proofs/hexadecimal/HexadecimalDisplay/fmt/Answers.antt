@@ -1,3 +1,4 @@
+use mathlib.Core.Bool.{true}
 use mathlib.Core.Path.{refl}
 use native.Mathlib.Omega.{arith}
 use Rattle.script.proofs.Digits.{put-none, put-digit, put-all}
@@ -9,7 +10,7 @@ loop-place-holds g c plain = put-none (g .W·Write .took) _ (c .args .self .now 
 pub loop-place-again : need.loop-place-again
 loop-place-again g c plain =
     let before = c .loop-place .inv plain in
-    put-digit (g .W·Write .took) _ _ _ _ _ _ _ (omega arith) (omega arith) (c .capital .ensures) before (c .in-Continue-write-char .ensures tt .prints (before .plain) refl)
+    put-digit (g .W·Write .took) _ _ _ _ _ _ _ (omega arith) (omega arith) (c .capital .ensures) before (c .in-Continue-write-char .ensures tt .prints (before .plain) (refl {a = true}))
 
 pub returns : need.returns
 returns g c plain ok = put-all (g .W·Write .took) _ _ _ (c .loop-place .place) _ (omega arith) (c .loop-place .inv plain)
