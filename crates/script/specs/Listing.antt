@@ -28,11 +28,11 @@ abbrev pub most-bytes : ℕ
 most-bytes = 80
 
 -- the form that a line asks for: a line that is too long asks for none
-abbrev pub request : List ℕ → Option Form
-request line = cond (ltb most-bytes (length line)) None (form-of line)
+abbrev pub request-of : List ℕ → Option Form
+request-of line = cond (ltb most-bytes (length line)) None (form-of line)
 
 abbrev pub requests-of : List ℕ → List (Option Form)
-requests-of input = map request (take most-lines (lines input))
+requests-of input = map request-of (take most-lines (lines input))
 
 abbrev pub loaded : Result ℕ fault.Fault → Answer
 loaded (Ok word) = Word word
@@ -71,18 +71,18 @@ abbrev pub answer-of : Meaning → Option Form → Answer
 answer-of m None = NoForm
 answer-of m (Some form) = form-answer m form
 
-abbrev pub after : Meaning → Option Form → Meaning
-after m None = m
-after m (Some form) = after-form m form
+abbrev pub after-request : Meaning → Option Form → Meaning
+after-request m None = m
+after-request m (Some form) = after-form m form
 
 -- each is answered from the memory as those before it left it
 abbrev pub answers-of : Meaning → List (Option Form) → List Answer
 answers-of m [] = []
-answers-of m (form ∷ forms) = answer-of m form ∷ answers-of (after m form) forms
+answers-of m (form ∷ forms) = answer-of m form ∷ answers-of (after-request m form) forms
 
 abbrev pub after-all : Meaning → List (Option Form) → Meaning
 after-all m [] = m
-after-all m (form ∷ forms) = after-all (after m form) forms
+after-all m (form ∷ forms) = after-all (after-request m form) forms
 
 -- the answers to the lines from that number on, each ended by a line feed
 abbrev pub written-from : ℕ → List Answer → List ℕ
