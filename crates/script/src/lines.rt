@@ -4,7 +4,7 @@ ghost use mathlib.Core.Path.{_≡_};
 ghost use Prim.Native.Nat.{ℕ, _≤_, _<_};
 ghost use lib.ListN.{length, getD};
 ghost use Rattle.std.specs.Options.{Cases};
-ghost use Rattle.script.specs.Lines.{lines, Cut};
+ghost use Rattle.script.specs.Lines.{lines};
 
 const LINE_FEED: u8 = 10;
 
@@ -26,7 +26,6 @@ fn end_of_line(input: &[u8]) -> usize
 pub fn next_line(input: &[u8]) -> Option<(&[u8], &[u8])>
     ensures value { λ r. ⌜ Cases r (lines (now (input .entry)) ≡ []) (λ p. lines (now (input .entry)) ≡ now (p .0) ∷ lines (now (p .1))) ⌝ }
     ensures shorter { λ r. ⌜ Cases r (Unit {0}) (λ p. length (now (p .1)) < length (now (input .entry))) ⌝ }
-    ensures cut { λ _. ⌜ Cut (now (input .entry)) (lines (now (input .entry))) ⌝ }
 {
     if input.is_empty() {
         return None;

@@ -5,6 +5,7 @@ ghost use Rattle.std.specs.Of.String.{string-bytes};
 ghost use Rattle.std.specs.Of.Vec.{vec-items};
 ghost use Rattle.std.specs.Results.{Cases};
 ghost use Rattle.std.specs.Vec.{made};
+ghost use Rattle.script.specs.Lines.{lines, Cut};
 ghost use Rattle.script.specs.Listing.{request-of, requests-of, form-answer, after-form, answer-of, after-request, Word-fits, answers-of, after-all, written-from, listing-of, memory-after};
 use crate::answer::Answer;
 use crate::answer::Numbered;
@@ -72,6 +73,7 @@ pub fn answer<M: Memory>(memory: &mut M, form: Option<Form>) -> Answer
 // What each line asks for, of as many lines as are read.
 pub fn requests(heap: Global, input: &[u8]) -> Result<Vec<Option<Form>>, AllocError>
     ensures value { λ r. ⌜ made r (λ v. vec-items v ≡ requests-of (now (input .entry))) ⌝ }
+    ensures cut { λ _. ⌜ Cut (now (input .entry)) (lines (now (input .entry))) ⌝ }
 {
     let mut forms = Vec::new(heap);
     let mut rest = input;
@@ -123,13 +125,10 @@ pub fn written(heap: Global, answers: &[Answer]) -> Result<String, AllocError>
 
 // The listing of the script `input` over the memory, which is left as the script leaves it.
 // Where memory for the listing is wanting, either no line was carried out or all were.
-pub fn listing<M: Memory>(
-    heap: Global,
-    memory: &mut M,
-    input: &[u8],
-) -> Result<String, AllocError>
+pub fn listing<M: Memory>(heap: Global, memory: &mut M, input: &[u8]) -> Result<String, AllocError>
     ensures value { λ r. ⌜ made r (λ s. string-bytes s ≡ listing-of (meaning (now (memory .entry))) (now (input .entry))) ⌝ }
     ensures after { λ r. ⌜ Cases r (λ _. meaning (now (memory .exit)) ≡ memory-after (meaning (now (memory .entry))) (now (input .entry))) (λ _. (meaning (now (memory .exit)) ≡ meaning (now (memory .entry))) ⊎ (meaning (now (memory .exit)) ≡ memory-after (meaning (now (memory .entry))) (now (input .entry)))) ⌝ }
+    ensures cut { λ _. ⌜ Cut (now (input .entry)) (lines (now (input .entry))) ⌝ }
 {
     let forms = requests(heap, input)?;
     let answers = answer_all(heap, memory, &forms)?;

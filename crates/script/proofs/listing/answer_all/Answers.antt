@@ -6,8 +6,7 @@ pub loop-form-again : need.loop-form-again
 loop-form-again g c =
     let told = c .answer .ensures in
     let before = c .loop-form .inv in
-    let within = c .loop-form-test .taken in
-    (
+    let within = c .loop-form-test .taken in (
       omega arith,
       omega arith,
       answers-more _ _ _ _ _ within (told .after) _ _ _ (told .value) (c .push-reserved .ensures .items) (before .2),
