@@ -3,3 +3,5 @@ pub mod answer;
 pub mod hexadecimal;
 pub mod lines;
 pub mod listing;
+#[cfg(test)]
+mod tests;
