@@ -10,14 +10,18 @@ use lib.ListN.{length, set}
 use Rattle.std.proofs.shelf.Lists.{getD-set-same, getD-set-other}
 use Rattle.std.proofs.shelf.Tests.{ltb-true, lt-ltb, both-ways, cases-bool, cond-true, cond-false, cond-both}
 use Rattle.std.proofs.shelf.Ways.{tells}
+use Rattle.std.specs.Of.Vec.{vec-items, vec-len}
+use Rattle.std.specs.declared.result.Result.the-variants.{Ok}
+use Rattle.memory.specs.declared.flat.Flat.{Flat}
 use Rattle.memory.specs.declared.flat.FlatSizes.{FlatSizes}
+use Rattle.memory.specs.declared.place.Kind.{Kind}
 use Rattle.memory.specs.declared.place.Kind.the-variants.{Plain}
 use Rattle.memory.specs.declared.place.Place.{Place}
 use Rattle.memory.specs.declared.place.Space.{Space}
 use Rattle.memory.specs.declared.place.Space.the-variants.{X, Y, P}
-use Rattle.memory.specs.Flat.{size-of, start-of, covers, flat-owner, flat-kind, flat-word, flat-of}
-use Rattle.memory.specs.Meaning.{same-space, same-place, put}
-use Rattle.memory.proofs.Stores.{same-place-is}
+use Rattle.memory.specs.Flat.{size-of, start-of, covers, flat-owner, flat-kind, flat-word, flat-of, flat-meaning}
+use Rattle.memory.specs.Meaning.{Meaning, same-space, same-place, may-store, put, after-store}
+use Rattle.memory.proofs.Stores.{same-place-is, store-leaves, stored-word-fits, stored-place-is-plain}
 
 pub plain-is-covered : (z : FlatSizes) (p : Place) → flat-kind z p ≡ Plain → p .address < size-of z (p .space)
 plain-is-covered z p h = grind (arith, tells)
@@ -70,3 +74,18 @@ module _ (words : List ℕ) (z : FlatSizes) (room : z .x + z .y + z .p ≤ lengt
 
   pub flat-after : flat-of (set words (start-of z (p .space) + p .address) w) z ≡ put (flat-of words z) p w
   flat-after = λ i. record { kind = flat-kind z; word = λ q. word-after q i; owner = λ q. flat-owner }
+
+-- the same of the whole memory, where the store was allowed
+module _ (f : Flat) (p : Place) (w at : ℕ) (k : Kind) (is : k ≡ flat-kind (f .sizes) p) (allowed : Ok tt ≡ may-store k w) (here : at ≡ start-of (f .sizes) (p .space) + p .address) where
+  covered : p .address < size-of (f .sizes) (p .space)
+  covered = plain-is-covered (f .sizes) p (stored-place-is-plain (flat-meaning f) p w k is allowed)
+
+  pub flat-store-within : at < vec-len (f .words)
+  flat-store-within = subst (λ i. i < vec-len (f .words)) (sym here) (index-within (f .sizes) (p .space) (p .address) _ covered (f .room))
+
+  pub flat-store-leaves : (n : Meaning) → n ≡ flat-of (set (vec-items (f .words)) at w) (f .sizes) → n ≡ after-store (flat-meaning f) p w
+  flat-store-leaves n e =
+      let room = subst (λ n. f .sizes .x + f .sizes .y + f .sizes .p ≤ n) (f .words .ok .0) (f .room) in
+      let fits = stored-word-fits (flat-meaning f) p w k is allowed in
+      store-leaves (flat-meaning f) p w k is allowed n
+      (e ∙ ap (λ i. flat-of (set (vec-items (f .words)) i w) (f .sizes)) here ∙ flat-after (vec-items (f .words)) (f .sizes) room p w fits covered)

@@ -9,17 +9,18 @@ use lib.ListN.{length, getD, set}
 use Rattle.std.proofs.shelf.Lists.{getD-set-same, getD-set-other, length-set}
 use Rattle.std.proofs.shelf.Tests.{both-ways, and-parts, and-from, ltb-true, leb-true, eqb-true, eq-eqb, cases-order, cases-bool, cond-true, cond-false, cond-both}
 use Rattle.std.proofs.shelf.Ways.{tells}
+use Rattle.std.specs.Of.Vec.{vec-items, vec-len}
+use Rattle.std.specs.declared.result.Result.the-variants.{Ok}
+use Rattle.memory.specs.declared.packed.Packed.{Packed}
 use Rattle.memory.specs.declared.packed.PackedSizes.{PackedSizes}
+use Rattle.memory.specs.declared.place.Kind.{Kind}
 use Rattle.memory.specs.declared.place.Kind.the-variants.{Plain}
 use Rattle.memory.specs.declared.place.Place.{Place}
 use Rattle.memory.specs.declared.place.Space.{Space}
 use Rattle.memory.specs.declared.place.Space.the-variants.{X, Y, P}
-use Rattle.memory.specs.Packed.{offset, holds-word, three-bytes, packed-owner, packed-kind, packed-word, packed-of}
-use Rattle.memory.specs.Meaning.{same-space, same-place, put}
-use Rattle.memory.proofs.Stores.{same-place-is}
-
-abbrev pub with-bytes : List ℕ → ℕ → ℕ → List ℕ
-with-bytes bytes i w = set (set (set bytes i (w % 256)) (i + 1) (w / 256 % 256)) (i + 2) (w / 65536 % 256)
+use Rattle.memory.specs.Packed.{offset, holds-word, three-bytes, with-bytes, packed-owner, packed-kind, packed-word, packed-of, packed-meaning}
+use Rattle.memory.specs.Meaning.{Meaning, same-space, same-place, may-store, put, after-store}
+use Rattle.memory.proofs.Stores.{same-place-is, store-leaves, stored-word-fits, stored-place-is-plain}
 
 module _ (bytes : List ℕ) (i w : ℕ) where
   byte-elsewhere : (j : ℕ) → j ≢ i → j ≢ i + 1 → j ≢ i + 2 → getD (with-bytes bytes i w) j 0 ≡ getD bytes j 0
@@ -102,3 +103,22 @@ module _ (bytes : List ℕ) (z : PackedSizes) (room : 3 * z .count ≤ length by
 
   pub packed-after : packed-of (with-bytes bytes (offset z p) w) z ≡ put (packed-of bytes z) p w
   packed-after = λ i. record { kind = packed-kind z; word = λ q. word-after q i; owner = λ q. packed-owner }
+
+-- the same of the whole memory, where the store was allowed
+module _ (m : Packed) (p : Place) (w : ℕ) (k : Kind) (is : k ≡ packed-kind (m .sizes) p) (allowed : Ok tt ≡ may-store k w) where
+  holds : holds-word (m .sizes) p ≡ true
+  holds = plain-holds-word (m .sizes) p (stored-place-is-plain (packed-meaning m) p w k is allowed)
+
+  pub packed-store-above : m .sizes .base ≤ p .address
+  packed-store-above = held (m .sizes) p holds .above
+
+  pub packed-store-within : offset (m .sizes) p + 2 < vec-len (m .bytes)
+  packed-store-within =
+      let here = held (m .sizes) p holds in
+      omega (arith, here .inside, here .third, m .room)
+
+  pub packed-store-leaves : (n : Meaning) → n ≡ packed-of (with-bytes (vec-items (m .bytes)) (offset (m .sizes) p) w) (m .sizes) → n ≡ after-store (packed-meaning m) p w
+  packed-store-leaves n e =
+      let room = subst (λ n. 3 * m .sizes .count ≤ n) (m .bytes .ok .0) (m .room) in
+      let fits = stored-word-fits (packed-meaning m) p w k is allowed in
+      store-leaves (packed-meaning m) p w k is allowed n (e ∙ packed-after (vec-items (m .bytes)) (m .sizes) room p w fits holds)

@@ -1,9 +1,9 @@
 -- What a packed memory means: every third address of one space, three bytes a word.
 use mathlib.Core.Bool.{Bool, cond, _&&_, _||_, not}
 use mathlib.Core.List.{List}
-use Prim.Native.Nat.{ℕ, _+_, _-_, _*_, _%_}
+use Prim.Native.Nat.{ℕ, _+_, _-_, _*_, _/_, _%_}
 use lib.Dec.{eqb, leb, ltb}
-use lib.ListN.{length, getD}
+use lib.ListN.{length, getD, set}
 use Rattle.std.specs.Of.Vec.{vec-items}
 use Rattle.std.specs.declared.result.Result.{Result}
 use Rattle.std.specs.declared.result.Result.the-variants.{Ok, Err}
@@ -37,6 +37,10 @@ packed-kind z p = cond (holds-word z p) Plain Absent
 -- the number that three bytes from i on make, the lowest first
 abbrev pub three-bytes : List ℕ → ℕ → ℕ
 three-bytes bytes i = getD bytes i 0 % 256 + 256 * (getD bytes (i + 1) 0 % 256) + 65536 * (getD bytes (i + 2) 0 % 256)
+
+-- the bytes with the number w from i on
+abbrev pub with-bytes : List ℕ → ℕ → ℕ → List ℕ
+with-bytes bytes i w = set (set (set bytes i (w % 256)) (i + 1) (w / 256 % 256)) (i + 2) (w / 65536 % 256)
 
 abbrev pub packed-word : List ℕ → PackedSizes → Place → ℕ
 packed-word bytes z p = cond (holds-word z p) (three-bytes bytes (offset z p)) 0

@@ -1,5 +1,6 @@
 // Two memories side by side: addresses below the border go to the first, the others to the second.
 ghost use mathlib.Core.Path.{_≡_};
+ghost use lib.Dec.{ltb};
 ghost use Rattle.memory.specs.Border.{deeper, deeper-fault, deepened, border-of};
 use crate::interface::Memory;
 use crate::place::Kind;
@@ -12,6 +13,15 @@ pub struct Border<Low, High> {
     pub low: Low,
     pub high: High,
     pub border: u32,
+}
+
+impl<Low, High> Border<Low, High> {
+    // Whether the first memory answers for the place.
+    fn is_low(&self, place: Place) -> bool
+        ensures value { λ r. ⌜ r ≡ ltb (place .address) (now (self .entry) .border) ⌝ }
+    {
+        place.address < self.border
+    }
 }
 
 impl Owner {
@@ -53,7 +63,7 @@ pub impl<Low: Memory, High: Memory> Memory for Border<Low, High> as BorderMemory
     ghost meaning = { λ m. border-of (m .border) (Low·Memory .meaning (m .low)) (High·Memory .meaning (m .high)) };
 
     fn kind(&self, place: Place) -> Kind {
-        if place.address < self.border {
+        if self.is_low(place) {
             self.low.kind(place)
         } else {
             self.high.kind(place)
@@ -61,7 +71,7 @@ pub impl<Low: Memory, High: Memory> Memory for Border<Low, High> as BorderMemory
     }
 
     fn load(&mut self, place: Place) -> Result<u32, Fault> {
-        if place.address < self.border {
+        if self.is_low(place) {
             deepened(self.low.load(place))
         } else {
             deepened(self.high.load(place))
@@ -69,7 +79,7 @@ pub impl<Low: Memory, High: Memory> Memory for Border<Low, High> as BorderMemory
     }
 
     fn store(&mut self, place: Place, word: u32) -> Result<(), Fault> {
-        if place.address < self.border {
+        if self.is_low(place) {
             deepened(self.low.store(place, word))
         } else {
             deepened(self.high.store(place, word))

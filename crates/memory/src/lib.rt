@@ -5,6 +5,5 @@ pub mod interface;
 pub mod packed;
 pub mod place;
 pub mod refusal;
-
 #[cfg(test)]
 mod tests;

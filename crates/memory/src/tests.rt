@@ -170,7 +170,9 @@ fn depth_stays_at_255() -> Result<(), Fail> {
     };
     let mut two = behind(behind(Far(owner)));
     check_eq(depth_of(two.load(at(Space::X, 0))), Some(255))?;
-    check_eq(depth_of(two.load(at(Space::X, 0x10))), Some(1)).note("at the border the second answers")?;
+    check_eq(depth_of(two.load(at(Space::X, 0x10))), Some(1)).note(
+        "at the border the second answers",
+    )?;
     let mut four = behind(behind(two));
     check_eq(depth_of(four.load(at(Space::X, 0xF))), Some(255))
 }

@@ -1,7 +1,9 @@
 // A flat memory's places: which there are, and their words.
 ghost use mathlib.Core.Path.{_≡_};
-ghost use Prim.Native.Nat.{_+_};
-ghost use Rattle.memory.specs.Flat.{covers, start-of, flat-meaning, flat-fault};
+ghost use Prim.Native.Nat.{_+_, _<_};
+ghost use lib.ListN.{set};
+ghost use Rattle.std.specs.Of.Vec.{vec-items, vec-len};
+ghost use Rattle.memory.specs.Flat.{covers, start-of, flat-fault, flat-of, flat-meaning};
 use crate::flat::Flat;
 use crate::flat::FlatSizes;
 use crate::interface::Memory;
@@ -53,6 +55,16 @@ fn refused(cause: Refusal, place: Place) -> Fault
     }
 }
 
+impl Flat {
+    // Writes one number of the list.
+    fn put(&mut self, at: usize, word: u32)
+        requires { ⌜ at < vec-len (now self .words) ⌝ }
+        ensures after { λ _. ⌜ flat-meaning (now (self .exit)) ≡ flat-of (set (vec-items (now (self .entry) .words)) at word) (now (self .entry) .sizes) ⌝ }
+    {
+        self.words[at] = word;
+    }
+}
+
 pub impl Memory for Flat as FlatMemory {
     ghost meaning = { flat-meaning };
 
@@ -79,7 +91,7 @@ pub impl Memory for Flat as FlatMemory {
             Err(cause) => Err(refused(cause, place)),
             Ok(()) => {
                 let at = self.sizes.index(place);
-                self.words[at] = word;
+                self.put(at, word);
                 Ok(())
             }
         }

@@ -1,6 +1,8 @@
 // A packed memory's places: which there are, and their words.
 ghost use mathlib.Core.Path.{_≡_};
-ghost use Rattle.memory.specs.Packed.{holds-word, packed-fault, packed-meaning};
+ghost use Prim.Native.Nat.{_+_, _<_};
+ghost use Rattle.std.specs.Of.Vec.{vec-items, vec-len};
+ghost use Rattle.memory.specs.Packed.{holds-word, with-bytes, packed-fault, packed-of, packed-meaning};
 use crate::interface::Memory;
 use crate::packed::Packed;
 use crate::packed::PackedSizes;
@@ -39,6 +41,19 @@ impl PackedSizes {
     }
 }
 
+impl Packed {
+    // Writes three bytes of the list, the lowest first.
+    fn put(&mut self, at: usize, word: u32)
+        requires { ⌜ at + 2 < vec-len (now self .bytes) ⌝ }
+        ensures after { λ _. ⌜ packed-meaning (now (self .exit)) ≡ packed-of (with-bytes (vec-items (now (self .entry) .bytes)) at word) (now (self .entry) .sizes) ⌝ }
+    {
+        let [low, middle, high, _] = word.to_le_bytes();
+        self.bytes[at] = low;
+        self.bytes[at + 1] = middle;
+        self.bytes[at + 2] = high;
+    }
+}
+
 pub impl Memory for Packed as PackedMemory {
     ghost meaning = { packed-meaning };
 
@@ -63,10 +78,7 @@ pub impl Memory for Packed as PackedMemory {
             Err(cause) => Err(refused(cause, place)),
             Ok(()) => {
                 let at = (place.address - self.sizes.base) as usize;
-                let [low, middle, high, _] = word.to_le_bytes();
-                self.bytes[at] = low;
-                self.bytes[at + 1] = middle;
-                self.bytes[at + 2] = high;
+                self.put(at, word);
                 Ok(())
             }
         }

@@ -1,17 +1,18 @@
-use mathlib.Core.Path.{_∙_}
+use mathlib.Core.Path.{sym, _∙_}
+use Rattle.std.proofs.shelf.Tests.{ltb-false}
 use Rattle.memory.proofs.BorderStores.{store-above, answer-above}
 use Rattle.memory.proofs.border.BorderMemory.store.Needs as need
 
-pub returns-else-place-self : need.returns-else-place-self
-returns-else-place-self g c =
+pub returns-else-is-low : need.returns-else-is-low
+returns-else-is-low g c =
     let m = c .args .self .now in
     let low = g .Low·Memory .meaning (m .low) in
     let high = g .High·Memory .meaning (m .high) in
     let p = c .args .place in
     let w = c .args .word in
-    let stored = c .store-else-place-self .ensures in
-    let above = c .if-place-self .left in
+    let stored = c .store-else-is-low .ensures in
+    let above = ltb-false (p .address) (m .border) (sym (c .if-is-low .ensures tt .value)) in
     record {
-      value = c .deepened-else-place-self .ensures .value ∙ answer-above (m .border) low high p w above _ (stored .value);
+      value = c .deepened-else-is-low .ensures .value ∙ answer-above (m .border) low high p w above _ (stored .value);
       after = store-above (m .border) low high p w above _ (stored .after);
     }
