@@ -1,10 +1,10 @@
 -- A store over a border is a store on the side that the address picks.
 use mathlib.Core.Path.{_≡_, refl, sym, ap, _∙_}
-use mathlib.Core.Bool.{cond}
-use Prim.Native.Nat.{ℕ, _≤_}
+use mathlib.Core.Bool.{false, cond}
+use Prim.Native.Nat.{ℕ}
 use native.Mathlib.Omega.{arith}
 use lib.Dec.{ltb}
-use Rattle.std.proofs.shelf.Tests.{le-ltb, cond-false}
+use Rattle.std.proofs.shelf.Tests.{cond-false}
 use Rattle.std.proofs.shelf.Ways.{tells}
 use Rattle.std.specs.declared.result.Result.{Result}
 use Rattle.std.specs.declared.result.Result.the-variants.{Ok, Err}
@@ -14,7 +14,7 @@ use Rattle.memory.specs.declared.refusal.Refusal.{Refusal}
 use Rattle.memory.specs.Border.{deeper, deepened, border-of}
 use Rattle.memory.specs.Meaning.{Meaning, fault, may-store, store-answer, put, after-store}
 
-module _ (b : ℕ) (low high : Meaning) (p : Place) (w : ℕ) (above : b ≤ p .address) where
+module _ (b : ℕ) (low high : Meaning) (p : Place) (w : ℕ) (above : false ≡ ltb (p .address) b) where
   word-above : (q : Place) → cond (ltb (q .address) b) (low .word q) (put high p w .word q) ≡ put (border-of b low high) p w .word q
   word-above q = grind (arith, tells)
 
@@ -22,7 +22,7 @@ module _ (b : ℕ) (low high : Meaning) (p : Place) (w : ℕ) (above : b ≤ p .
   put-above = λ i. record { kind = border-of b low high .kind; word = λ q. word-above q i; owner = border-of b low high .owner }
 
   kind-above : high .kind p ≡ border-of b low high .kind p
-  kind-above = sym (cond-false _ _ _ (le-ltb (p .address) b above))
+  kind-above = sym (cond-false _ _ _ (sym above))
 
   leaves : Result (Unit {0}) Refusal → Meaning → Meaning
   leaves r m = elim r [ Ok u ↦ put m p w | Err cause ↦ m ]
@@ -42,7 +42,7 @@ module _ (b : ℕ) (low high : Meaning) (p : Place) (w : ℕ) (above : b ≤ p .
   answers-above : (r : Result (Unit {0}) Refusal) → deepened (answers r high) ≡ answers r (border-of b low high)
   unfolding answers
   answers-above (Ok u) = refl
-  answers-above (Err cause) = ap (λ o. Err (record { cause = cause; place = p; owner = deeper o })) (sym (cond-false _ _ _ (le-ltb (p .address) b above)))
+  answers-above (Err cause) = ap (λ o. Err (record { cause = cause; place = p; owner = deeper o })) (sym (cond-false _ _ _ (sym above)))
 
   pub answer-above : (r : Result (Unit {0}) Fault) → r ≡ store-answer high p w → deepened r ≡ store-answer (border-of b low high) p w
   unfolding answers

@@ -109,9 +109,6 @@ module _ (m : Packed) (p : Place) (w : ℕ) (k : Kind) (is : k ≡ packed-kind (
   holds : holds-word (m .sizes) p ≡ true
   holds = plain-holds-word (m .sizes) p (stored-place-is-plain (packed-meaning m) p w k is allowed)
 
-  pub packed-store-above : m .sizes .base ≤ p .address
-  packed-store-above = held (m .sizes) p holds .above
-
   pub packed-store-within : offset (m .sizes) p + 2 < vec-len (m .bytes)
   packed-store-within =
       let here = held (m .sizes) p holds in

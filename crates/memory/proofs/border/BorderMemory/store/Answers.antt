@@ -1,5 +1,4 @@
-use mathlib.Core.Path.{sym, _∙_}
-use Rattle.std.proofs.shelf.Tests.{ltb-false}
+use mathlib.Core.Path.{_∙_}
 use Rattle.memory.proofs.BorderStores.{store-above, answer-above}
 use Rattle.memory.proofs.border.BorderMemory.store.Needs as need
 
@@ -11,7 +10,7 @@ returns-else-is-low g c =
     let p = c .args .place in
     let w = c .args .word in
     let stored = c .store-else-is-low .ensures in
-    let above = ltb-false (p .address) (m .border) (sym (c .if-is-low .ensures tt .value)) in
+    let above = c .if-is-low .ensures tt .value in
     record {
       value = c .deepened-else-is-low .ensures .value ∙ answer-above (m .border) low high p w above _ (stored .value);
       after = store-above (m .border) low high p w above _ (stored .after);
