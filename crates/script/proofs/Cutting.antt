@@ -1,14 +1,16 @@
 -- The lines of an input, and that cutting at each line feed finds them. Assumes nothing.
-use mathlib.Core.Bool.{cond}
+use mathlib.Core.Bool.{true, false, cond}
 use mathlib.Core.List.{List, [], _∷_, _++_}
 use mathlib.Core.Logic.{⊎-elim}
 use mathlib.Core.Path.{_≡_, refl, sym, ap, subst, _∙_}
-use Prim.Native.Nat.{ℕ, zero, suc, _+_, _<_}
+use Prim.Native.Nat.{ℕ, zero, suc, _+_, _-_, _≤_, _<_}
+use native.Mathlib.Nat.{sub-zero}
 use native.Mathlib.Numerals.{add-one}
 use native.Mathlib.Omega.{arith}
 use lib.Dec.{eqb}
-use lib.ListN.{length, getD, take, drop}
-use Rattle.std.proofs.shelf.Lists.{drop-all, nil-from-length}
+use lib.ListN.{length, getD, take, drop, length-drop}
+use borrow.Author.Tests.{true-eqb, false-eqb}
+use Rattle.std.proofs.shelf.Lists.{drop-all, nil-from-length, take-rest}
 use Rattle.std.proofs.shelf.Tests.{eq-eqb, ne-eqb, cond-true, cond-false, cases-eq}
 use Rattle.script.specs.Lines.{longer, lines, No-feed, Lines, none, last, more, Cut}
 
@@ -24,8 +26,8 @@ lines-none : lines [] ≡ []
 unfolding lines
 lines-none = refl
 
-pub lines-of-empty : (input : List ℕ) → length input ≡ 0 → lines input ≡ []
-lines-of-empty input e = ap lines (nil-from-length input e) ∙ lines-none
+pub lines-of-empty : (input : List ℕ) → true ≡ eqb (length input) 0 → lines input ≡ []
+lines-of-empty input e = ap lines (nil-from-length input (true-eqb _ 0 e)) ∙ lines-none
 
 -- up to the first line feed
 lines-at-feed : (input : List ℕ) (n : ℕ) → n < length input → getD input n 0 ≡ 10 → ((k : ℕ) → k < n → getD input k 0 ≡ 10 → ⊥) → lines input ≡ take n input ∷ lines (drop (suc n) input)
@@ -75,11 +77,20 @@ only (more {line} {rest} free others) = ap (λ found. line ∷ found) (only othe
 pub cut-lines : (input : List ℕ) → Cut input (lines input)
 cut-lines input = record { sound = sound input; only = λ other h. only h }
 
--- a line and the rest of the input, as the code cuts them
-pub cut-at-feed : (input : List ℕ) (n : ℕ) → n < length input → getD input n 0 ≡ 10 → ((k : ℕ) → k < n → getD input k 0 ≡ 10 → ⊥) → lines input ≡ take n input ∷ lines (drop (n + 1) input)
-cut-at-feed input n within found before = rw add-one (lines-at-feed input n within found before)
+-- a line and the rest of the input, as the checker reads the code's parts
+pub cut-at-feed : (input : List ℕ) (n : ℕ) → n < length input → getD input n 0 ≡ 10 → ((k : ℕ) → k < n → getD input k 0 ≡ 10 → ⊥) → lines input ≡ take (n - 0) input ∷ lines (take (length input - (n + 1)) (drop (n + 1) input))
+cut-at-feed input n within found before = rw (take-rest, sub-zero, add-one) (lines-at-feed input n within found before)
 
-pub cut-at-end : (input : List ℕ) (n : ℕ) → n ≡ length input → 0 < length input → ((k : ℕ) → k < n → getD input k 0 ≡ 10 → ⊥) → lines input ≡ input ∷ lines (drop n input)
+pub cut-at-end : (input : List ℕ) (n : ℕ) → n ≡ length input → false ≡ eqb (length input) 0 → ((k : ℕ) → k < n → getD input k 0 ≡ 10 → ⊥) → lines input ≡ input ∷ lines (take (length input - n) (drop n input))
 cut-at-end input n e some before =
-    lines-to-end input some (λ k h. before k (omega arith))
-    ∙ ap (λ found. input ∷ found) (sym lines-none ∙ ap lines (sym (drop-all n input (omega arith))))
+    let more = false-eqb (length input) 0 some in
+    lines-to-end input (omega arith) (λ k h. before k (omega arith))
+    ∙ ap (λ found. input ∷ found) (sym lines-none ∙ ap lines (sym (take-rest input n ∙ drop-all n input (omega arith))))
+
+pub rest-is-shorter : (input : List ℕ) (n : ℕ) → 0 < n → n ≤ length input → length (take (length input - n) (drop n input)) < length input
+rest-is-shorter input n some within = rw (take-rest, length-drop) (omega arith)
+
+pub end-is-shorter : (input : List ℕ) (n : ℕ) → n ≡ length input → false ≡ eqb (length input) 0 → length (take (length input - n) (drop n input)) < length input
+end-is-shorter input n e some =
+    let more = false-eqb (length input) 0 some in
+    rest-is-shorter input n (omega arith) (omega arith)

@@ -1,7 +1,7 @@
 -- The listing of a script over a memory, and the memory that the script leaves.
 use mathlib.Core.Bool.{cond}
 use mathlib.Core.List.{List, [], _∷_, _++_, map}
-use Prim.Native.Nat.{ℕ, suc, _<_}
+use Prim.Native.Nat.{ℕ, suc}
 use lib.Chars.{codes}
 use lib.Dec.{ltb}
 use lib.ListN.{length, take}
@@ -14,6 +14,7 @@ use Rattle.memory.specs.Meaning.{Meaning, load-answer, store-answer, after-stor
 use Rattle.forms.specs.declared.form.Form.{Form}
 use Rattle.forms.specs.declared.form.Form.the-variants.{Store, Load, Set, Get, Raise, Slot, Serve, Stop, Wake}
 use Rattle.forms.specs.Reading.{form-of}
+use Rattle.forms.specs.Spelling.{Word-fits}
 use Rattle.script.specs.declared.answer.Answer.{Answer}
 use Rattle.script.specs.declared.answer.Answer.the-variants.{Done, Word, Fault, NoForm}
 use Rattle.script.specs.Lines.{line-feed, lines}
@@ -66,7 +67,7 @@ after-form m (Serve c) = m
 after-form m Stop = m
 after-form m Wake = m
 
--- the same of what a line asks for
+-- what a line is answered by what it asks for, and the memory after it
 abbrev pub answer-of : Meaning → Option Form → Answer
 answer-of m None = NoForm
 answer-of m (Some form) = form-answer m form
@@ -96,8 +97,8 @@ abbrev pub memory-after : Meaning → List ℕ → Meaning
 memory-after m input = after-all m (requests-of input)
 
 -- a word that is answered has 24 bits, so that six digits lose nothing of it
-abbrev pub Word-fits : Answer → Type 0
-Word-fits Done = Unit {0}
-Word-fits (Word w) = w < 0x1000000
-Word-fits (Fault f) = Unit {0}
-Word-fits NoForm = Unit {0}
+abbrev pub Answer-fits : Answer → Type 0
+Answer-fits Done = Unit {0}
+Answer-fits (Word w) = Word-fits w
+Answer-fits (Fault f) = Unit {0}
+Answer-fits NoForm = Unit {0}

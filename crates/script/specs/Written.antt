@@ -1,6 +1,6 @@
 -- How an answer is written in the listing.
 use mathlib.Core.Bool.{Bool, true, false, cond}
-use mathlib.Core.List.{List, _++_}
+use mathlib.Core.List.{List, [], _++_}
 use Prim.Native.Nat.{ℕ}
 use lib.Chars.{codes}
 use lib.Utf8.{encode}
@@ -13,7 +13,7 @@ use Rattle.forms.specs.Spelling.{spelled-place, spelled-word}
 use Rattle.script.specs.declared.answer.Answer.{Answer}
 use Rattle.script.specs.declared.answer.Answer.the-variants.{Done, Word, Fault, NoForm}
 
--- whether the place tells more than the number: it is what an absent or fixed place refused
+-- whether the place is told: it is where an absent or a fixed place refused
 abbrev pub tells-place : Refusal → Bool
 tells-place refusal.ValueTooLarge = false
 tells-place refusal.AbsentLoad = true
@@ -31,7 +31,7 @@ abbrev pub whereabouts : fault.Fault → List ℕ
 whereabouts f = codes " " ++ spelled-place (f .place) ++ codes " " ++ encode (f .owner .letter) ++ codes " " ++ decimal (f .owner .depth)
 
 abbrev pub written-fault : ℕ → fault.Fault → List ℕ
-written-fault line f = refused (f .cause) line ++ cond (tells-place (f .cause)) (whereabouts f) (codes "") ++ codes ")"
+written-fault line f = refused (f .cause) line ++ cond (tells-place (f .cause)) (whereabouts f) [] ++ codes ")"
 
 -- the answer to the line of that number
 abbrev pub written : ℕ → Answer → List ℕ

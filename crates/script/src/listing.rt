@@ -6,7 +6,7 @@ ghost use Rattle.std.specs.Of.Vec.{vec-items};
 ghost use Rattle.std.specs.Results.{Cases};
 ghost use Rattle.std.specs.Vec.{made};
 ghost use Rattle.script.specs.Lines.{lines, Cut};
-ghost use Rattle.script.specs.Listing.{request-of, requests-of, form-answer, after-form, answer-of, after-request, Word-fits, answers-of, after-all, written-from, listing-of, memory-after};
+ghost use Rattle.script.specs.Listing.{request-of, requests-of, form-answer, after-form, answer-of, after-request, Answer-fits, answers-of, after-all, written-from, listing-of, memory-after};
 use crate::answer::Answer;
 use crate::answer::Numbered;
 use crate::answer::NumberedDisplay;
@@ -37,7 +37,7 @@ pub fn request(line: &[u8]) -> Option<Form>
 fn serve<M: Memory>(memory: &mut M, form: Form) -> Answer
     ensures value { λ r. ⌜ r ≡ form-answer (meaning (now (memory .entry))) form ⌝ }
     ensures after { λ _. ⌜ meaning (now (memory .exit)) ≡ after-form (meaning (now (memory .entry))) form ⌝ }
-    ensures words_fit { λ r. ⌜ Word-fits r ⌝ }
+    ensures words_fit { λ r. ⌜ Answer-fits r ⌝ }
 {
     match form {
         Form::Store(place, word) => match memory.store(place, word) {
@@ -62,7 +62,7 @@ fn serve<M: Memory>(memory: &mut M, form: Form) -> Answer
 pub fn answer<M: Memory>(memory: &mut M, form: Option<Form>) -> Answer
     ensures value { λ r. ⌜ r ≡ answer-of (meaning (now (memory .entry))) form ⌝ }
     ensures after { λ _. ⌜ meaning (now (memory .exit)) ≡ after-request (meaning (now (memory .entry))) form ⌝ }
-    ensures words_fit { λ r. ⌜ Word-fits r ⌝ }
+    ensures words_fit { λ r. ⌜ Answer-fits r ⌝ }
 {
     match form {
         Some(form) => serve(memory, form),

@@ -5,11 +5,9 @@ ghost use Prim.Native.Nat.{_%_};
 ghost use lib.Dec.{ltb};
 ghost use Rattle.memory.specs.declared.place.Kind.the-variants.{Absent, Fixed};
 use crate::answer::Answer;
-use crate::answer::AnswerDebug;
 use crate::answer::AnswerPartialEq;
 use crate::answer::Numbered;
 use crate::answer::NumberedDisplay;
-use crate::lines::next_line;
 use crate::listing::answer_all;
 use crate::listing::listing;
 use crate::listing::requests;
@@ -21,6 +19,7 @@ use memory::place::Place;
 use memory::place::Space;
 use memory::refusal::Fault;
 use memory::refusal::Refusal;
+use std::alloc::AllocError;
 use std::test::*;
 
 // A memory whose word at each address is the address, and that takes no store.
@@ -70,16 +69,22 @@ impl Memory for Addresses as AddressesMemory {
     }
 }
 
-fn shown(rt: &LibcRuntime, line: usize, answer: Answer) -> Result<String, Fail> {
-    Ok(format!(rt.alloc(), "{}", Numbered { line, answer })?)
+fn lines_in(rt: &LibcRuntime, input: &[u8]) -> Result<usize, AllocError> {
+    let forms = requests(rt.alloc(), input)?;
+    Ok(forms.len())
 }
 
-#[test]
-fn a_line_ends_before_its_feed() -> Result<(), Fail> {
-    check_eq(next_line(b""), None)?;
-    check_eq(next_line(b"a"), Some((b"a", b"")))?;
-    check_eq(next_line(b"a\n"), Some((b"a", b"")))?;
-    check_eq(next_line(b"\nb"), Some((b"", b"b")))
+// Whether the answer to line 7 is written as that text.
+fn writes(rt: &LibcRuntime, answer: Answer, text: &str) -> Result<(), Fail> {
+    let numbered = Numbered { line: 7, answer };
+    let line = format!(rt.alloc(), "{numbered}")?;
+    check(line.as_str() == text)
+}
+
+// Whether that text is the listing of the input.
+fn lists(rt: &LibcRuntime, input: &[u8], text: &str) -> Result<(), Fail> {
+    let listed = listing(rt.alloc(), &mut Addresses, input)?;
+    check(listed.as_str() == text)
 }
 
 #[test]
@@ -88,31 +93,13 @@ fn answers_are_written(rt: LibcRuntime) -> Result<(), Fail> {
         space: Space::Y,
         address: 0x101,
     };
-    let owner = Owner {
-        letter: 'B',
-        depth: 1,
-    };
-    let absent = Fault {
-        cause: Refusal::AbsentLoad,
-        place,
-        owner,
-    };
-    let large = Fault {
-        cause: Refusal::ValueTooLarge,
-        place,
-        owner,
-    };
-    check_eq(shown(&rt, 1, Answer::Done)?.as_str(), "(ok)")?;
-    check_eq(shown(&rt, 1, Answer::Word(0xAA))?.as_str(), "(word 0000AA)")?;
-    check_eq(
-        shown(&rt, 7, Answer::Fault(absent))?.as_str(),
-        "(refused 13 at 7 (y 000101) B 1)",
-    )?;
-    check_eq(
-        shown(&rt, 7, Answer::Fault(large))?.as_str(),
-        "(refused 2 at 7)",
-    )?;
-    check_eq(shown(&rt, 9, Answer::NoForm)?.as_str(), "(refused 16 at 9)")
+    let absent = Answer::Fault(fault(Refusal::AbsentLoad, place));
+    let large = Answer::Fault(fault(Refusal::ValueTooLarge, place));
+    writes(&rt, Answer::Done, "(ok)")?;
+    writes(&rt, Answer::Word(0xAA), "(word 0000AA)")?;
+    writes(&rt, absent, "(refused 13 at 7 (y 000101) A 0)")?;
+    writes(&rt, large, "(refused 2 at 7)")?;
+    writes(&rt, Answer::NoForm, "(refused 16 at 7)")
 }
 
 #[test]
@@ -121,41 +108,26 @@ fn forms_are_answered_in_turn(rt: LibcRuntime) -> Result<(), Fail> {
         space: Space::X,
         address: 0xABC,
     };
-    let forms = [
-        Some(Form::Load(place)),
-        Some(Form::Store(place, 1)),
-        Some(Form::Stop),
-        None,
-    ];
+    let forms = [Some(Form::Load(place)), Some(Form::Store(place, 1)), None];
     let answers = answer_all(rt.alloc(), &mut Addresses, &forms)?;
-    check_eq(
-        answers.as_slice(),
-        &[
-            Answer::Word(0xABC),
-            Answer::Fault(fault(Refusal::FixedStore, place)),
-            Answer::NoForm,
-            Answer::NoForm,
-        ],
-    )
+    let refused = Answer::Fault(fault(Refusal::FixedStore, place));
+    let wanted = [Answer::Word(0xABC), refused, Answer::NoForm];
+    check(answers.as_slice() == &wanted)
 }
 
 #[test]
-fn lines_of_80_and_81_bytes(rt: LibcRuntime) -> Result<(), Fail> {
+fn short_scripts(rt: LibcRuntime) -> Result<(), Fail> {
     let mut input = vec![in rt.alloc(); b'x'; 80]?;
     input.push(b'\n')?;
     input.extend_from_slice(&[b'x'; 81])?;
-    let text = listing(rt.alloc(), &mut Addresses, &input)?;
-    check_eq(text.as_str(), "(refused 16 at 1)\n(refused 16 at 2)\n")?;
-    let nothing = listing(rt.alloc(), &mut Addresses, b"")?;
-    check_eq(nothing.as_str(), "")
+    lists(&rt, &input, "(refused 16 at 1)\n(refused 16 at 2)\n")?;
+    lists(&rt, b"a\n\n", "(refused 16 at 1)\n(refused 16 at 2)\n")?;
+    lists(&rt, b"", "")
 }
 
 #[test]
 fn only_the_first_99999_lines_are_read(rt: LibcRuntime) -> Result<(), Fail> {
-    let all = vec![in rt.alloc(); b'\n'; 99_999]?;
-    check_eq(requests(rt.alloc(), &all)?.len(), 99_999)?;
-    let more = vec![in rt.alloc(); b'\n'; 100_000]?;
-    check_eq(requests(rt.alloc(), &more)?.len(), 99_999)?;
-    let text = listing(rt.alloc(), &mut Addresses, &more)?;
-    check(text.as_str().ends_with("\n(refused 16 at 99999)\n"))
+    let feeds = vec![in rt.alloc(); b'\n'; 100_000]?;
+    check(lines_in(&rt, &feeds)? == 99_999)?;
+    check(lines_in(&rt, &feeds[0..99_999])? == 99_999)
 }
