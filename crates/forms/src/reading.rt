@@ -1,6 +1,6 @@
 // Reading one line of a script into a form.
 ghost use mathlib.Core.Path.{_≡_};
-ghost use Rattle.forms.specs.Reading.{form-of, space-of, place-of, numbered, register-of};
+ghost use Rattle.forms.specs.Reading.{form-of, space-of, place-of, numbered, register-of, store-of, load-of, set-of, get-of, raise-of, serve-of, bare-of, any-of};
 ghost use Rattle.forms.specs.Scanning.{seen};
 ghost use Rattle.forms.specs.Spelling.{Exact};
 use crate::form::Form;
@@ -58,10 +58,100 @@ fn take_register(s: &[u8]) -> Option<(Register, &[u8])>
     Some((numbered(name, number)?, s))
 }
 
+// What follows `(store `.
+fn take_store(s: &[u8]) -> Option<(Form, &[u8])>
+    ensures value { λ r. ⌜ seen r ≡ store-of (now (s .entry)) ⌝ }
+{
+    let (place, s) = take_place(s)?;
+    let (word, s) = take_word(skip(s, b" ")?)?;
+    Some((Form::Store(place, word), skip(s, b")")?))
+}
+
+// What follows `(load `.
+fn take_load(s: &[u8]) -> Option<(Form, &[u8])>
+    ensures value { λ r. ⌜ seen r ≡ load-of (now (s .entry)) ⌝ }
+{
+    let (place, s) = take_place(s)?;
+    Some((Form::Load(place), skip(s, b")")?))
+}
+
+// What follows `(set `.
+fn take_set(s: &[u8]) -> Option<(Form, &[u8])>
+    ensures value { λ r. ⌜ seen r ≡ set-of (now (s .entry)) ⌝ }
+{
+    let (register, s) = take_register(s)?;
+    let (word, s) = take_word(skip(s, b" ")?)?;
+    Some((Form::Set(register, word), skip(s, b")")?))
+}
+
+// What follows `(get `.
+fn take_get(s: &[u8]) -> Option<(Form, &[u8])>
+    ensures value { λ r. ⌜ seen r ≡ get-of (now (s .entry)) ⌝ }
+{
+    let (register, s) = take_register(s)?;
+    Some((Form::Get(register), skip(s, b")")?))
+}
+
+// What follows `(raise `.
+fn take_raise(s: &[u8]) -> Option<(Form, &[u8])>
+    ensures value { λ r. ⌜ seen r ≡ raise-of (now (s .entry)) ⌝ }
+{
+    let (source, s) = take_number(s)?;
+    Some((Form::Raise(source), s))
+}
+
+// What follows `(serve `.
+fn take_serve(s: &[u8]) -> Option<(Form, &[u8])>
+    ensures value { λ r. ⌜ seen r ≡ serve-of (now (s .entry)) ⌝ }
+{
+    let (channel, s) = take_number(s)?;
+    Some((Form::Serve(channel), s))
+}
+
+// A form that is one word.
+fn take_bare(s: &[u8]) -> Option<(Form, &[u8])>
+    ensures value { λ r. ⌜ seen r ≡ bare-of (now (s .entry)) ⌝ }
+{
+    if let Some(s) = skip(s, b"(slot)") {
+        return Some((Form::Slot, s));
+    }
+    if let Some(s) = skip(s, b"(stop)") {
+        return Some((Form::Stop, s));
+    }
+    Some((Form::Wake, skip(s, b"(wake)")?))
+}
+
+// A form by its first word.
+fn take_form(s: &[u8]) -> Option<(Form, &[u8])>
+    ensures value { λ r. ⌜ seen r ≡ any-of (now (s .entry)) ⌝ }
+{
+    if let Some(s) = skip(s, b"(store ") {
+        return take_store(s);
+    }
+    if let Some(s) = skip(s, b"(load ") {
+        return take_load(s);
+    }
+    if let Some(s) = skip(s, b"(set ") {
+        return take_set(s);
+    }
+    if let Some(s) = skip(s, b"(get ") {
+        return take_get(s);
+    }
+    if let Some(s) = skip(s, b"(raise ") {
+        return take_raise(s);
+    }
+    if let Some(s) = skip(s, b"(serve ") {
+        return take_serve(s);
+    }
+    take_bare(s)
+}
+
 // The form that the line spells, if it spells one.
 pub fn read(line: &[u8]) -> Option<Form>
     ensures value { λ r. ⌜ r ≡ form-of (now (line .entry)) ⌝ }
 {
-    let _ = line;
-    None
+    match take_form(line) {
+        Some((form, [])) => Some(form),
+        _ => None,
+    }
 }
