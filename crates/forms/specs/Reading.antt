@@ -14,75 +14,75 @@ use Rattle.forms.specs.declared.form.Form.{Form}
 use Rattle.forms.specs.declared.form.Form.the-variants.{Store, Load, Set, Get, Raise, Slot, Serve, Stop, Wake}
 use Rattle.forms.specs.declared.form.Register.{Register}
 use Rattle.forms.specs.declared.form.Register.the-variants.{Dsr, Ddr, Dco, Dcr, Dor, Dstr}
-use Rattle.forms.specs.Scanning.{bind, skipped, word-of, number-of}
+use Rattle.forms.specs.Scanning.{bind, skipped, both-of, closed-of, Way, first-way, word-of, number-of}
 
-abbrev pub space-of : ℕ → Option Space
-space-of c = cond (eqb c 120) (Some X) (cond (eqb c 121) (Some Y) (cond (eqb c 112) (Some P) None))
+abbrev pub lettered : ℕ → Option Space
+lettered c = cond (eqb c 120) (Some X) (cond (eqb c 121) (Some Y) (cond (eqb c 112) (Some P) None))
 
--- the first byte, and the rest
-abbrev pub first-of : List ℕ → Option (ℕ × List ℕ)
-first-of [] = None
-first-of (c ∷ s) = Some (c, s)
+-- the letter of a space
+abbrev pub space-of : List ℕ → Option (Space × List ℕ)
+space-of [] = None
+space-of (c ∷ rest) = bind (lettered c) (λ space. Some (space, rest))
 
+abbrev pub placed : Space × ℕ → Place
+placed p = record { space = p .0; address = p .1 }
+
+-- a place: a space and an address in parentheses
 abbrev pub place-of : List ℕ → Option (Place × List ℕ)
-place-of s =
-    bind (skipped (codes "(") s) (λ s1.
-    bind (first-of s1) (λ p.
-    bind (space-of (p .0)) (λ space.
-    bind (skipped (codes " ") (p .1)) (λ s2.
-    bind (word-of s2) (λ w.
-    bind (skipped (codes ")") (w .1)) (λ rest. Some (record { space = space; address = w .0 }, rest)))))))
+place-of s = bind (skipped (codes "(") s) (closed-of placed (both-of space-of (codes " ") word-of) (codes ")"))
 
 -- the bytes of s from i on begin with the text
 abbrev pub reads : List ℕ → List ℕ → ℕ → Bool
 reads s [] i = true
 reads s (c ∷ text) i = eqb (getD s i 0) c && reads s text (suc i)
 
--- the register of a name, with its number
-abbrev pub numbered : List ℕ → ℕ → Option Register
-numbered name n =
-    cond (reads name (codes "dsr") 0) (Some (Dsr n))
-    (cond (reads name (codes "ddr") 0) (Some (Ddr n))
-    (cond (reads name (codes "dco") 0) (Some (Dco n))
-    (cond (reads name (codes "dcr") 0) (Some (Dcr n))
-    (cond (reads name (codes "dor") 0) (Some (Dor n)) None))))
+-- a name, and the register that it means with a number
+pub record Name : Type 0 where
+  pub text : List ℕ
+  pub means : ℕ → Register
 
--- a name and a number
+abbrev pub named : List Name → List ℕ → ℕ → Option Register
+named [] s n = None
+named (name ∷ names) s n = cond (reads s (name .text) 0) (Some (name .means n)) (named names s n)
+
+abbrev pub names : List Name
+names =
+    record { text = codes "dsr"; means = Dsr }
+    ∷ record { text = codes "ddr"; means = Ddr }
+    ∷ record { text = codes "dco"; means = Dco }
+    ∷ record { text = codes "dcr"; means = Dcr }
+    ∷ record { text = codes "dor"; means = Dor }
+    ∷ []
+
+-- a name of three letters, and a number
 abbrev pub numbered-of : List ℕ → Option (Register × List ℕ)
 numbered-of s =
     cond (ltb (length s) 3) None
-    (bind (skipped (codes " ") (drop 3 s)) (λ s1.
-    bind (number-of s1) (λ n.
-    bind (numbered (take 3 s) (n .0)) (λ r. Some (r, n .1)))))
+    (bind (skipped (codes " ") (drop 3 s)) (λ t.
+    bind (number-of t) (λ n.
+    bind (named names (take 3 s) (n .0)) (λ r. Some (r, n .1)))))
 
--- where there is a rest after one text, what follows there; else another reading
-abbrev pub either : {B : Type 0} → Option (List ℕ) → (List ℕ → Option B) → Option B → Option B
-either None k other = other
-either (Some rest) k other = k rest
+abbrev pub registers : List (Way Register)
+registers =
+    record { text = codes "(dstr)"; next = λ rest. Some (Dstr, rest) }
+    ∷ record { text = codes "("; next = numbered-of }
+    ∷ []
 
 abbrev pub register-of : List ℕ → Option (Register × List ℕ)
-register-of s = either (skipped (codes "(dstr)") s) (λ rest. Some (Dstr, rest)) (bind (skipped (codes "(") s) numbered-of)
+register-of s = first-way registers s
 
 -- what follows the first word of each form
 abbrev pub store-of : List ℕ → Option (Form × List ℕ)
-store-of s =
-    bind (place-of s) (λ p.
-    bind (skipped (codes " ") (p .1)) (λ s1.
-    bind (word-of s1) (λ w.
-    bind (skipped (codes ")") (w .1)) (λ rest. Some (Store (p .0) (w .0), rest)))))
+store-of s = closed-of (λ (p : Place × ℕ). Store (p .0) (p .1)) (both-of place-of (codes " ") word-of) (codes ")") s
 
 abbrev pub load-of : List ℕ → Option (Form × List ℕ)
-load-of s = bind (place-of s) (λ p. bind (skipped (codes ")") (p .1)) (λ rest. Some (Load (p .0), rest)))
+load-of s = closed-of Load place-of (codes ")") s
 
 abbrev pub set-of : List ℕ → Option (Form × List ℕ)
-set-of s =
-    bind (register-of s) (λ r.
-    bind (skipped (codes " ") (r .1)) (λ s1.
-    bind (word-of s1) (λ w.
-    bind (skipped (codes ")") (w .1)) (λ rest. Some (Set (r .0) (w .0), rest)))))
+set-of s = closed-of (λ (p : Register × ℕ). Set (p .0) (p .1)) (both-of register-of (codes " ") word-of) (codes ")") s
 
 abbrev pub get-of : List ℕ → Option (Form × List ℕ)
-get-of s = bind (register-of s) (λ r. bind (skipped (codes ")") (r .1)) (λ rest. Some (Get (r .0), rest)))
+get-of s = closed-of Get register-of (codes ")") s
 
 abbrev pub raise-of : List ℕ → Option (Form × List ℕ)
 raise-of s = bind (number-of s) (λ n. Some (Raise (n .0), n .1))
@@ -90,28 +90,24 @@ raise-of s = bind (number-of s) (λ n. Some (Raise (n .0), n .1))
 abbrev pub serve-of : List ℕ → Option (Form × List ℕ)
 serve-of s = bind (number-of s) (λ n. Some (Serve (n .0), n .1))
 
--- a form of one word
-abbrev pub bare-of : List ℕ → Option (Form × List ℕ)
-bare-of s =
-    either (skipped (codes "(slot)") s) (λ rest. Some (Slot, rest))
-    (either (skipped (codes "(stop)") s) (λ rest. Some (Stop, rest))
-    (bind (skipped (codes "(wake)") s) (λ rest. Some (Wake, rest))))
+-- the forms by their first words
+abbrev pub forms : List (Way Form)
+forms =
+    record { text = codes "(store "; next = store-of }
+    ∷ record { text = codes "(load "; next = load-of }
+    ∷ record { text = codes "(set "; next = set-of }
+    ∷ record { text = codes "(get "; next = get-of }
+    ∷ record { text = codes "(raise "; next = raise-of }
+    ∷ record { text = codes "(serve "; next = serve-of }
+    ∷ record { text = codes "(slot)"; next = λ rest. Some (Slot, rest) }
+    ∷ record { text = codes "(stop)"; next = λ rest. Some (Stop, rest) }
+    ∷ record { text = codes "(wake)"; next = λ rest. Some (Wake, rest) }
+    ∷ []
 
--- a form by its first word
-abbrev pub any-of : List ℕ → Option (Form × List ℕ)
-any-of s =
-    either (skipped (codes "(store ") s) store-of
-    (either (skipped (codes "(load ") s) load-of
-    (either (skipped (codes "(set ") s) set-of
-    (either (skipped (codes "(get ") s) get-of
-    (either (skipped (codes "(raise ") s) raise-of
-    (either (skipped (codes "(serve ") s) serve-of
-    (bare-of s))))))
-
--- what was found, if nothing is left of the line
+-- what was read, if nothing is left of the line
 abbrev pub ended : Form → List ℕ → Option Form
 ended f [] = Some f
 ended f (c ∷ rest) = None
 
 unfoldable pub form-of : List ℕ → Option Form
-form-of line = bind (any-of line) (λ p. ended (p .0) (p .1))
+form-of line = bind (first-way forms line) (λ p. ended (p .0) (p .1))

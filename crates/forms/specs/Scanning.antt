@@ -25,6 +25,28 @@ skipped [] s = Some s
 skipped (t ∷ ts) [] = None
 skipped (t ∷ ts) (c ∷ cs) = cond (eqb t c) (skipped ts cs) None
 
+-- two readings, with a text between them
+abbrev pub both-of : {A B : Type 0} → (List ℕ → Option (A × List ℕ)) → List ℕ → (List ℕ → Option (B × List ℕ)) → List ℕ → Option ((A × B) × List ℕ)
+both-of f text g s = bind (f s) (λ a. bind (skipped text (a .1)) (λ t. bind (g t) (λ b. Some ((a .0, b .0), b .1))))
+
+-- a reading, with a text after it; `make` says what it stands for
+abbrev pub closed-of : {A B : Type 0} → (A → B) → (List ℕ → Option (A × List ℕ)) → List ℕ → List ℕ → Option (B × List ℕ)
+closed-of make f text s = bind (f s) (λ a. bind (skipped text (a .1)) (λ rest. Some (make (a .0), rest)))
+
+-- a text with what follows it
+pub record Way (A : Type 0) : Type 0 where
+  pub text : List ℕ
+  pub next : List ℕ → Option (A × List ℕ)
+
+abbrev pub either : {B : Type 0} → Option (List ℕ) → (List ℕ → Option B) → Option B → Option B
+either None k other = other
+either (Some rest) k other = k rest
+
+-- the first of the ways whose text stands at the front
+abbrev pub first-way : {A : Type 0} → List (Way A) → List ℕ → Option (A × List ℕ)
+first-way [] s = None
+first-way (way ∷ ways) s = either (skipped (way .text) s) (way .next) (first-way ways s)
+
 abbrev pub between : ℕ → ℕ → ℕ → Bool
 between low high c = leb low c && leb c high
 

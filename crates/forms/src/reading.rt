@@ -1,7 +1,7 @@
 // Reading one line of a script into a form.
 ghost use mathlib.Core.Path.{_≡_};
-ghost use Rattle.forms.specs.Reading.{form-of, space-of, place-of, numbered, register-of, store-of, load-of, set-of, get-of, raise-of, serve-of, bare-of, any-of};
-ghost use Rattle.forms.specs.Scanning.{seen};
+ghost use Rattle.forms.specs.Reading.{form-of, forms, space-of, place-of, named, names, register-of, store-of, load-of, set-of, get-of, raise-of, serve-of};
+ghost use Rattle.forms.specs.Scanning.{seen, first-way};
 ghost use Rattle.forms.specs.Spelling.{Exact};
 use crate::form::Form;
 use crate::form::Register;
@@ -11,13 +11,15 @@ use crate::scan::take_word;
 use memory::place::Place;
 use memory::place::Space;
 
-fn space(letter: u8) -> Option<Space>
-    ensures value { λ r. ⌜ r ≡ space-of letter ⌝ }
+// The letter of a space.
+fn take_space(s: &[u8]) -> Option<(Space, &[u8])>
+    ensures value { λ r. ⌜ seen r ≡ space-of (now (s .entry)) ⌝ }
 {
-    match char::from(letter) {
-        'x' => Some(Space::X),
-        'y' => Some(Space::Y),
-        'p' => Some(Space::P),
+    let (letter, rest) = s.split_first()?;
+    match char::from(*letter) {
+        'x' => Some((Space::X, rest)),
+        'y' => Some((Space::Y, rest)),
+        'p' => Some((Space::P, rest)),
         _ => None,
     }
 }
@@ -26,15 +28,14 @@ fn space(letter: u8) -> Option<Space>
 fn take_place(s: &[u8]) -> Option<(Place, &[u8])>
     ensures value { λ r. ⌜ seen r ≡ place-of (now (s .entry)) ⌝ }
 {
-    let (letter, s) = skip(s, b"(")?.split_first()?;
-    let space = space(*letter)?;
+    let (space, s) = take_space(skip(s, b"(")?)?;
     let (address, s) = take_word(skip(s, b" ")?)?;
     Some((Place { space, address }, skip(s, b")")?))
 }
 
 // The register of a name, with its number.
 fn numbered(name: &[u8; 3], number: u8) -> Option<Register>
-    ensures value { λ r. ⌜ r ≡ numbered (now (name .entry)) number ⌝ }
+    ensures value { λ r. ⌜ r ≡ named names (now (name .entry)) number ⌝ }
 {
     match name {
         b"dsr" => Some(Register::Dsr(number)),
@@ -108,22 +109,9 @@ fn take_serve(s: &[u8]) -> Option<(Form, &[u8])>
     Some((Form::Serve(channel), s))
 }
 
-// A form that is one word.
-fn take_bare(s: &[u8]) -> Option<(Form, &[u8])>
-    ensures value { λ r. ⌜ seen r ≡ bare-of (now (s .entry)) ⌝ }
-{
-    if let Some(s) = skip(s, b"(slot)") {
-        return Some((Form::Slot, s));
-    }
-    if let Some(s) = skip(s, b"(stop)") {
-        return Some((Form::Stop, s));
-    }
-    Some((Form::Wake, skip(s, b"(wake)")?))
-}
-
 // A form by its first word.
 fn take_form(s: &[u8]) -> Option<(Form, &[u8])>
-    ensures value { λ r. ⌜ seen r ≡ any-of (now (s .entry)) ⌝ }
+    ensures value { λ r. ⌜ seen r ≡ first-way forms (now (s .entry)) ⌝ }
 {
     if let Some(s) = skip(s, b"(store ") {
         return take_store(s);
@@ -143,15 +131,19 @@ fn take_form(s: &[u8]) -> Option<(Form, &[u8])>
     if let Some(s) = skip(s, b"(serve ") {
         return take_serve(s);
     }
-    take_bare(s)
+    if let Some(s) = skip(s, b"(slot)") {
+        return Some((Form::Slot, s));
+    }
+    if let Some(s) = skip(s, b"(stop)") {
+        return Some((Form::Stop, s));
+    }
+    Some((Form::Wake, skip(s, b"(wake)")?))
 }
 
 // The form that the line spells, if it spells one.
 pub fn read(line: &[u8]) -> Option<Form>
     ensures value { λ r. ⌜ r ≡ form-of (now (line .entry)) ⌝ }
 {
-    match take_form(line) {
-        Some((form, [])) => Some(form),
-        _ => None,
-    }
+    let (form, rest) = take_form(line)?;
+    if rest.is_empty() { Some(form) } else { None }
 }
