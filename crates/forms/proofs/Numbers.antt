@@ -36,20 +36,20 @@ more-sound [] v n rest some fits e = none-is-not-some (n, rest) e
 more-sound (c ∷ s) v n rest some fits e =
     ⊎-elim
     (λ closed.
-        let is = eqb-true c 41 (closed .0) in
-        let same = same-found v n s rest (closed .1) in
-        (omega (arith, same .0), cc (same .0, same .1)))
+    let is = eqb-true c 41 (closed .0) in
+    let same = same-found v n s rest (closed .1) in
+    (omega (arith, same .0), cc (same .0, same .1)))
     (λ going.
-        let digit = bound (decimal-digit-of c) (λ d. bind (with-digit v d) (λ w. more-digits-of w s)) (n, rest) (going .1) in
-        let d = digit .0 in
-        let told = digit-sound c d (digit .1) in
-        let more = bound (with-digit v d) (λ w. more-digits-of w s) (n, rest) (digit .2) in
-        let kept = guarded (ltb (v * 10 + d) 256) (Some (v * 10 + d)) (more .0) (more .1) in
-        let below = ltb-true (v * 10 + d) 256 (kept .0) in
-        let same : v * 10 + d ≡ more .0 = cc (kept .1) in
-        let next = more-sound s (v * 10 + d) n rest (omega arith) below (cc (more .2)) in
-        let here = one-digit-more v d some below (told .0) in
-        (next .0, sym (append-assoc (decimal v) (c ∷ []) s) ∙ rw (told .1, ← here) (next .1)))
+    let digit = bound (decimal-digit-of c) (λ d. bind (with-digit v d) (λ w. more-digits-of w s)) (n, rest) (going .1) in
+    let d = digit .0 in
+    let told = digit-sound c d (digit .1) in
+    let more = bound (with-digit v d) (λ w. more-digits-of w s) (n, rest) (digit .2) in
+    let kept = guarded (ltb (v * 10 + d) 256) (Some (v * 10 + d)) (more .0) (more .1) in
+    let below = ltb-true (v * 10 + d) 256 (kept .0) in
+    let same : v * 10 + d ≡ more .0 = cc (kept .1) in
+    let next = more-sound s (v * 10 + d) n rest (omega arith) below (cc (more .2)) in
+    let here = one-digit-more v d some below (told .0) in
+    (next .0, sym (append-assoc (decimal v) (c ∷ []) s) ∙ rw (told .1, ← here) (next .1)))
     (either-arm (eqb c 41) (Some (v, s)) (bind (decimal-digit-of c) (λ d. bind (with-digit v d) (λ w. more-digits-of w s))) (Some (n, rest)) e)
 
 number-from-sound : (d : ℕ) (s : List ℕ) (n : ℕ) (rest : List ℕ) → d < 10 → number-from d s ≡ Some (n, rest) → (n < 256) × ((48 + d) ∷ s ≡ decimal n ++ (41 ∷ rest))

@@ -1,6 +1,6 @@
 -- Places are read exactly.
-use mathlib.Core.Path.{_≡_, refl, sym, ap, subst, _∙_}
-use mathlib.Core.List.{List, [], _∷_, _++_, append-assoc}
+use mathlib.Core.Path.{_≡_, refl, ap, subst, _∙_}
+use mathlib.Core.List.{List, [], _∷_, _++_}
 use Prim.Native.Nat.{ℕ}
 use native.Mathlib.Omega.{arith}
 use lib.Chars.{codes}
@@ -50,9 +50,8 @@ place-reads = record { sound = found; complete = finds }
         let opened = skipped-then (codes "(") s (closed-of placed (both-of space-of (codes " ") word-of) (codes ")")) (p, rest) e in
         let told = closed-sound (both-reads space-reads (codes " ") word-reads) placed (codes ")") (opened .0) rest p (opened .2) in
         let x = told .0 in
-        let whole : s ≡ spelled-place (placed x) ++ rest = opened .1 ∙ ap (λ t. 40 ∷ t) (told .3 ∙ sym (append-assoc (letter (x .0) ++ codes " " ++ spelled-word (x .1)) (codes ")") rest)) in
+        let whole : s ≡ spelled-place (placed x) ++ rest = opened .1 ∙ ap (λ t. 40 ∷ t) (told .3) in
         subst (λ (q : Place). Word-fits (q .address) × (s ≡ spelled-place q ++ rest)) (told .1) (told .2 .1, whole)
+
     finds : (p : Place) (rest : List ℕ) → Word-fits (p .address) → place-of (spelled-place p ++ rest) ≡ Some (p, rest)
-    finds p rest h =
-        ap (λ t. closed-of placed (both-of space-of (codes " ") word-of) (codes ")") t) (append-assoc (letter (p .space) ++ codes " " ++ spelled-word (p .address)) (codes ")") rest)
-        ∙ closed-complete (both-reads space-reads (codes " ") word-reads) placed (codes ")") rest (p .space, p .address) (tt, h)
+    finds p rest h = closed-complete (both-reads space-reads (codes " ") word-reads) placed (codes ")") rest (p .space, p .address) (tt, h)

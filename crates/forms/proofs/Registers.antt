@@ -21,7 +21,7 @@ use Rattle.forms.specs.Scanning.{bind, skipped, Way, first-way, number-of}
 use Rattle.forms.specs.Spelling.{spelled-register, Register-fits, Number-fits}
 use Rattle.forms.proofs.Texts.{none-is-not-some, bound, guarded-not, either-arm, same-found}
 use Rattle.forms.proofs.Numbers.{number-sound, number-complete}
-use Rattle.forms.proofs.Sequences.{Reads, skipped-then, Way-sound, first-way-sound}
+use Rattle.forms.proofs.Sequences.{Reads, skipped-then, bare-way, first-way-sound}
 
 reads-at : (s text : List ℕ) (i : ℕ) → reads s text i ≡ true → ReadsAt s i text
 reads-at s [] i e = tt
@@ -42,10 +42,16 @@ All-proper (name ∷ more) = Proper name × All-proper more
 names-proper : All-proper names
 names-proper = (
   record { long = refl; fits = λ n h. h; spells = λ n. refl },
-  (record { long = refl; fits = λ n h. h; spells = λ n. refl },
-  (record { long = refl; fits = λ n h. h; spells = λ n. refl },
-  (record { long = refl; fits = λ n h. h; spells = λ n. refl },
-  (record { long = refl; fits = λ n h. h; spells = λ n. refl }, tt)))),
+  (
+    record { long = refl; fits = λ n h. h; spells = λ n. refl },
+    (
+      record { long = refl; fits = λ n h. h; spells = λ n. refl },
+      (
+        record { long = refl; fits = λ n h. h; spells = λ n. refl },
+        (record { long = refl; fits = λ n h. h; spells = λ n. refl }, tt),
+      ),
+    ),
+  ),
 )
 
 named-sound : (all : List Name) → All-proper all → (s : List ℕ) (n : ℕ) (r : Register) → length s ≡ 3 → Number-fits n → named all s n ≡ Some r → Register-fits r × (spelled-register r ≡ codes "(" ++ s ++ codes " " ++ decimal n ++ codes ")")
@@ -53,10 +59,10 @@ named-sound [] proper s n r long h e = none-is-not-some r e
 named-sound (name ∷ more) proper s n r long h e =
     ⊎-elim
     (λ here.
-        let is : s ≡ name .text = text-from-reads s (name .text) (long ∙ sym (proper .0 .long)) (reads-at s (name .text) 0 (here .0)) in
-        let same : name .means n ≡ r = cc (here .1) in
-        subst (λ (q : Register). Register-fits q × (spelled-register q ≡ codes "(" ++ s ++ codes " " ++ decimal n ++ codes ")")) same
-        (proper .0 .fits n h, proper .0 .spells n ∙ ap (λ t. codes "(" ++ t ++ codes " " ++ decimal n ++ codes ")") (sym is)))
+    let is : s ≡ name .text = text-from-reads s (name .text) (long ∙ sym (proper .0 .long)) (reads-at s (name .text) 0 (here .0)) in
+    let same : name .means n ≡ r = cc (here .1) in
+    subst (λ (q : Register). Register-fits q × (spelled-register q ≡ codes "(" ++ s ++ codes " " ++ decimal n ++ codes ")")) same
+    (proper .0 .fits n h, proper .0 .spells n ∙ ap (λ t. codes "(" ++ t ++ codes " " ++ decimal n ++ codes ")") (sym is)))
     (λ later. named-sound more (proper .1) s n r long h (later .1))
     (either-arm (reads s (name .text) 0) (Some (name .means n)) (named more s n) (Some r) e)
 
@@ -91,12 +97,7 @@ numbered-complete a b c n rest h =
     rw long (ap (λ o. bind o make) read)
 
 register-sound : (s rest : List ℕ) (r : Register) → register-of s ≡ Some (r, rest) → Register-fits r × (s ≡ spelled-register r ++ rest)
-register-sound s rest r e = first-way-sound spelled-register Register-fits registers (bare, (numbered-sound, tt)) s rest r e
-  where
-    bare : (s rest : List ℕ) (r : Register) → _≡_ {A = Option (Register × List ℕ)} (Some (Dstr, s)) (Some (r, rest)) → Register-fits r × (codes "(dstr)" ++ s ≡ spelled-register r ++ rest)
-    bare s rest r e =
-        let same = same-found Dstr r s rest e in
-        (subst Register-fits (same .0) tt, ap (λ q. spelled-register q ++ s) (same .0) ∙ ap (λ t. spelled-register r ++ t) (same .1))
+register-sound = first-way-sound spelled-register Register-fits registers (bare-way spelled-register Register-fits Dstr tt, (numbered-sound, tt))
 
 register-complete : (r : Register) (rest : List ℕ) → Register-fits r → register-of (spelled-register r ++ rest) ≡ Some (r, rest)
 unfolding skipped

@@ -19,7 +19,7 @@ skipped-then text s k b e =
     (on .0, skipped-sound text s (on .0) (on .1), on .2)
 
 module _ {A B : Type 0} {f : List ℕ → Option (A × List ℕ)} {p : A → List ℕ} {F : A → Type 0} (reads : Reads f p F) where
-  pub closed-sound : (make : A → B) (text s rest : List ℕ) (b : B) → closed-of make f text s ≡ Some (b, rest) → (a : A) × (make a ≡ b) × F a × (s ≡ p a ++ (text ++ rest))
+  pub closed-sound : (make : A → B) (text s rest : List ℕ) (b : B) → closed-of make f text s ≡ Some (b, rest) → (a : A) × (make a ≡ b) × F a × (s ≡ p a ++ text ++ rest)
   closed-sound make text s rest b e =
       let k : A × List ℕ → Option (B × List ℕ) = λ x. bind (skipped text (x .1)) (λ t. Some (make (x .0), t)) in
       let one = bound (f s) k (b, rest) e in
@@ -27,13 +27,15 @@ module _ {A B : Type 0} {f : List ℕ → Option (A × List ℕ)} {p : A → Lis
       let end = skipped-then text (one .0 .1) (λ t. Some (make a, t)) (b, rest) (one .2) in
       let same = same-found (make a) b (end .0) rest (end .2) in
       let told = reads .sound s (one .0 .1) a (one .1) in
-      (a, same .0, told .0, told .1 ∙ ap (λ t. p a ++ t) (end .1 ∙ ap (λ t. text ++ t) (same .1)))
+      (a, same .0, told .0, told .1 ∙ ap (λ t. p a ++ t) (end .1 ∙ ap (λ t. text ++ t) (same .1)) ∙ sym (append-assoc (p a) text rest))
 
-  pub closed-complete : (make : A → B) (text rest : List ℕ) (a : A) → F a → closed-of make f text (p a ++ (text ++ rest)) ≡ Some (make a, rest)
+  pub closed-complete : (make : A → B) (text rest : List ℕ) (a : A) → F a → closed-of make f text (p a ++ text ++ rest) ≡ Some (make a, rest)
   closed-complete make text rest a h =
       let k : A × List ℕ → Option (B × List ℕ) = λ x. bind (skipped text (x .1)) (λ t. Some (make (x .0), t)) in
       let l : List ℕ → Option (B × List ℕ) = λ t. Some (make a, t) in
-      ap (λ o. bind o k) (reads .complete a (text ++ rest) h) ∙ ap (λ o. bind o l) (skipped-front text rest)
+      ap (λ s. closed-of make f text s) (append-assoc (p a) text rest)
+      ∙ ap (λ o. bind o k) (reads .complete a (text ++ rest) h)
+      ∙ ap (λ o. bind o l) (skipped-front text rest)
 
 regrouped : (a b c d : List ℕ) → a ++ b ++ c ++ d ≡ a ++ (b ++ (c ++ d))
 regrouped a b c d = simp append-assoc
@@ -55,6 +57,7 @@ module _ {A B : Type 0} {f : List ℕ → Option (A × List ℕ)} {p : A → Lis
           let right = second .sound (gap .0) (two .0 .1) b (two .1) in
           let whole : s ≡ p a ++ (text ++ (q b ++ rest)) = left .1 ∙ ap (λ t. p a ++ t) (gap .1 ∙ ap (λ t. text ++ t) (right .1 ∙ ap (λ t. q b ++ t) (same .1))) in
           subst (λ (y : A × B). (F (y .0) × G (y .1)) × (s ≡ p (y .0) ++ text ++ q (y .1) ++ rest)) (same .0) ((left .0, right .0), whole ∙ sym (regrouped (p a) text (q b) rest))
+
       finds : (x : A × B) (rest : List ℕ) → F (x .0) × G (x .1) → both-of f text g (p (x .0) ++ text ++ q (x .1) ++ rest) ≡ Some (x, rest)
       finds x rest h =
           let join : B × List ℕ → Option ((A × B) × List ℕ) = λ y. Some ((x .0, y .0), y .1) in
@@ -67,6 +70,12 @@ module _ {A B : Type 0} {f : List ℕ → Option (A × List ℕ)} {p : A → Lis
 -- what follows the text of a way, together with that text, is what it reads
 abbrev pub Way-sound : {A : Type 0} → (A → List ℕ) → (A → Type 0) → Way A → Type 0
 Way-sound {A} spell fits way = (s rest : List ℕ) (a : A) → way .next s ≡ Some (a, rest) → fits a × (way .text ++ s ≡ spell a ++ rest)
+
+-- a way whose text is all that it reads
+pub bare-way : {A : Type 0} (spell : A → List ℕ) (fits : A → Type 0) (a : A) → fits a → Way-sound spell fits (record { text = spell a; next = λ rest. Some (a, rest) })
+bare-way spell fits a h s rest b e =
+    let same = same-found a b s rest e in
+    (subst fits (same .0) h, ap (λ q. spell q ++ s) (same .0) ∙ ap (λ t. spell b ++ t) (same .1))
 
 abbrev pub Ways-sound : {A : Type 0} → (A → List ℕ) → (A → Type 0) → List (Way A) → Type 0
 Ways-sound spell fits [] = Unit {0}
@@ -81,7 +90,7 @@ first-way-sound spell fits [] h s rest a e = none-is-not-some (a, rest) e
 first-way-sound spell fits (way ∷ ways) h s rest a e =
     ⊎-elim
     (λ here.
-        let told = h .0 (here .0) rest a (here .2) in
-        (told .0, skipped-sound (way .text) s (here .0) (here .1) ∙ told .1))
+    let told = h .0 (here .0) rest a (here .2) in
+    (told .0, skipped-sound (way .text) s (here .0) (here .1) ∙ told .1))
     (λ later. first-way-sound spell fits ways (h .1) s rest a later)
     (either-of (skipped (way .text) s) (way .next) (first-way ways s) (a, rest) e)

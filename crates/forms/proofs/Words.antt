@@ -35,7 +35,7 @@ room-for-a-digit w i h e =
 pub hex-value-turn : (w d digit i : ℕ) (ds : List ℕ) → hex-value w (drop i ds) ≡ hex-value 0 ds → w < 16 ^ i → i < length ds → d ≡ digit → Some digit ≡ hex-digit-of (getD ds i 0) → digit < 16 → (hex-value (w * 16 + d) (drop (i + 1) ds) ≡ hex-value 0 ds) × (w * 16 + d < 16 ^ (i + 1))
 hex-value-turn w d digit i ds so fits h is e below = (
   let step : hex-value (w * 16 + digit) (drop (i + 1) ds) ≡ hex-value w (drop i ds) = rw (drop-more ds i 0 h, ← e) in
-  rw is (step ∙ so),
+      rw is (step ∙ so),
   rw (add-one i) (one-digit-more w d i fits (omega arith)),
 )
 

@@ -84,11 +84,8 @@ set-of s = closed-of (λ (p : Register × ℕ). Set (p .0) (p .1)) (both-of regi
 abbrev pub get-of : List ℕ → Option (Form × List ℕ)
 get-of s = closed-of Get register-of (codes ")") s
 
-abbrev pub raise-of : List ℕ → Option (Form × List ℕ)
-raise-of s = bind (number-of s) (λ n. Some (Raise (n .0), n .1))
-
-abbrev pub serve-of : List ℕ → Option (Form × List ℕ)
-serve-of s = bind (number-of s) (λ n. Some (Serve (n .0), n .1))
+abbrev pub number-as : (ℕ → Form) → List ℕ → Option (Form × List ℕ)
+number-as make s = bind (number-of s) (λ n. Some (make (n .0), n .1))
 
 -- the forms by their first words
 abbrev pub forms : List (Way Form)
@@ -97,8 +94,8 @@ forms =
     ∷ record { text = codes "(load "; next = load-of }
     ∷ record { text = codes "(set "; next = set-of }
     ∷ record { text = codes "(get "; next = get-of }
-    ∷ record { text = codes "(raise "; next = raise-of }
-    ∷ record { text = codes "(serve "; next = serve-of }
+    ∷ record { text = codes "(raise "; next = number-as Raise }
+    ∷ record { text = codes "(serve "; next = number-as Serve }
     ∷ record { text = codes "(slot)"; next = λ rest. Some (Slot, rest) }
     ∷ record { text = codes "(stop)"; next = λ rest. Some (Stop, rest) }
     ∷ record { text = codes "(wake)"; next = λ rest. Some (Wake, rest) }

@@ -1,6 +1,7 @@
 // Reading one line of a script into a form.
 ghost use mathlib.Core.Path.{_≡_};
-ghost use Rattle.forms.specs.Reading.{form-of, forms, space-of, place-of, named, names, register-of, store-of, load-of, set-of, get-of, raise-of, serve-of};
+ghost use Rattle.forms.specs.declared.form.Form.the-variants.{Raise, Serve};
+ghost use Rattle.forms.specs.Reading.{form-of, forms, space-of, place-of, named, names, register-of, store-of, load-of, set-of, get-of, number-as};
 ghost use Rattle.forms.specs.Scanning.{seen, first-way};
 ghost use Rattle.forms.specs.Spelling.{Exact};
 use crate::form::Form;
@@ -95,7 +96,7 @@ fn take_get(s: &[u8]) -> Option<(Form, &[u8])>
 
 // What follows `(raise `.
 fn take_raise(s: &[u8]) -> Option<(Form, &[u8])>
-    ensures value { λ r. ⌜ seen r ≡ raise-of (now (s .entry)) ⌝ }
+    ensures value { λ r. ⌜ seen r ≡ number-as Raise (now (s .entry)) ⌝ }
 {
     let (source, s) = take_number(s)?;
     Some((Form::Raise(source), s))
@@ -103,7 +104,7 @@ fn take_raise(s: &[u8]) -> Option<(Form, &[u8])>
 
 // What follows `(serve `.
 fn take_serve(s: &[u8]) -> Option<(Form, &[u8])>
-    ensures value { λ r. ⌜ seen r ≡ serve-of (now (s .entry)) ⌝ }
+    ensures value { λ r. ⌜ seen r ≡ number-as Serve (now (s .entry)) ⌝ }
 {
     let (channel, s) = take_number(s)?;
     Some((Form::Serve(channel), s))
@@ -143,6 +144,7 @@ fn take_form(s: &[u8]) -> Option<(Form, &[u8])>
 // The form that the line spells, if it spells one.
 pub fn read(line: &[u8]) -> Option<Form>
     ensures value { λ r. ⌜ r ≡ form-of (now (line .entry)) ⌝ }
+    ensures exact { λ r. ⌜ Exact (now (line .entry)) r ⌝ }
 {
     let (form, rest) = take_form(line)?;
     if rest.is_empty() { Some(form) } else { None }
