@@ -2,3 +2,5 @@
 pub mod form;
 pub mod reading;
 mod scan;
+#[cfg(test)]
+mod tests;
