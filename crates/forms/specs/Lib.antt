@@ -1,3 +1,4 @@
 pub mod Numerals
 pub mod Spelling
+pub mod Scanning
 pub mod Reading
