@@ -1,0 +1,4 @@
+// The registers of a channel as numbers: the control word taken apart, and how counter and addresses go on after a word.
+pub mod control;
+pub mod counter;
+pub mod update;
