@@ -13,11 +13,23 @@ use crate::place::PlacePartialEq;
 // Every refusal has a number, by which consoles and their engineers know it.
 #[derive(Clone, Copy, PartialEq, Eq, Debug)]
 pub enum Refusal {
+    NoSuchRegister = 1,
     ValueTooLarge = 2,
+    StatusIsRead = 3,
+    Busy = 4,
+    ReservedMode = 5,
+    ReservedShape = 6,
+    ReservedSpace = 7,
+    ShapeInMidBlock = 8,
+    NoSuchSource = 9,
+    NoInterrupt = 10,
+    InService = 11,
+    NoService = 12,
     AbsentLoad = 13,
     AbsentStore = 14,
     FixedStore = 15,
     NoForm = 16,
+    NotNow = 17,
     UnfitSizes = 18,
 }
 

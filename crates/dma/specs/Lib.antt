@@ -1,0 +1,6 @@
+pub mod Arbitration
+pub mod Channels
+pub mod Raises
+pub mod Reads
+pub mod Sets
+pub mod State

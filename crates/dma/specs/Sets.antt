@@ -1,0 +1,177 @@
+-- What a set of a register is refused with, and what it leaves.
+use mathlib.Core.Bool.{Bool, true, false, cond, not, _&&_, _||_}
+use Prim.Native.Nat.{ℕ, _-_, _*_, _^_}
+use lib.Dec.{eqb, leb, ltb}
+use lib.ListN.{getD, set}
+use Rattle.std.specs.Options.{isSome}
+use Rattle.std.specs.declared.option.Option.{Option}
+use Rattle.std.specs.declared.option.Option.the-variants.{None, Some}
+use Rattle.std.specs.declared.result.Result.{Result}
+use Rattle.std.specs.declared.result.Result.the-variants.{Ok, Err}
+use Rattle.memory.specs.declared.refusal.Refusal.{Refusal}
+use Rattle.memory.specs.declared.refusal.Refusal.the-variants.{NoSuchRegister, ValueTooLarge, StatusIsRead, Busy, ReservedMode, ReservedShape, ReservedSpace, ShapeInMidBlock}
+use Rattle.registers.specs.Control.{field, enable, mode-of, mode-number, shape-of, spaces-of}
+use Rattle.dma.specs.declared.register.Register.{Register}
+use Rattle.dma.specs.declared.register.Register.the-variants.{Dsr, Ddr, Dco, Dcr, Dor, Dstr}
+use Rattle.dma.specs.declared.row.Row.{Row}
+use Rattle.dma.specs.Channels.{settings, busy, by-words, made-due, starts-by-enable}
+use Rattle.dma.specs.State.{State, row-at}
+
+-- the register does not exist
+abbrev pub unknown : Register → Bool
+unknown (Dsr c) = ltb 5 c
+unknown (Ddr c) = ltb 5 c
+unknown (Dco c) = ltb 5 c
+unknown (Dcr c) = ltb 5 c
+unknown (Dor i) = ltb 3 i
+unknown Dstr = false
+
+-- the held control word with DE cleared
+abbrev pub disabled : ℕ → ℕ
+disabled word = word - field 23 1 word * 2 ^ 23
+
+-- D3D or DAM differ
+abbrev pub reshapes : ℕ → ℕ → Bool
+reshapes held word = not (eqb (field 4 7 held) (field 4 7 word))
+
+-- a control word for a channel at rest
+abbrev pub at-rest-refusal : Row → ℕ → Option Refusal
+at-rest-refusal r word =
+    cond (not (isSome (mode-of (mode-number word)))) (Some ReservedMode)
+    (cond (not (isSome (shape-of word))) (Some ReservedShape)
+    (cond (not (isSome (spaces-of word))) (Some ReservedSpace)
+    (cond (reshapes (r .control) word && not (eqb (r .count) (r .preload))) (Some ShapeInMidBlock) None)))
+
+-- while DE is 1 only DE can be cleared; while the channel drains nothing can be set
+abbrev pub control-refusal : Row → ℕ → Option Refusal
+control-refusal r word =
+    cond (enable (r .control)) (cond (eqb word (r .control) || eqb word (disabled (r .control))) None (Some Busy))
+    (cond (r .active) (Some Busy) (at-rest-refusal r word))
+
+abbrev pub if-busy : Row → Option Refusal
+if-busy r = cond (busy r) (Some Busy) None
+
+abbrev pub set-refusal : State → Register → ℕ → Option Refusal
+set-refusal s register value =
+    cond (unknown register) (Some NoSuchRegister)
+    (cond (ltb 0xFFFFFF value) (Some ValueTooLarge)
+    (elim register [
+      | Dsr c ↦ if-busy (row-at (s .rows) c)
+      | Ddr c ↦ if-busy (row-at (s .rows) c)
+      | Dco c ↦ if-busy (row-at (s .rows) c)
+      | Dcr c ↦ control-refusal (row-at (s .rows) c) value
+      | Dor i ↦ None
+      | Dstr ↦ Some StatusIsRead
+    ]))
+
+-- DE is set from 0: the channel is active, and in DTM 3 the rest of the block is due
+abbrev pub switched-on : Row → Row
+switched-on r = record {
+  source = r .source;
+  destination = r .destination;
+  count = r .count;
+  preload = r .preload;
+  control = r .control;
+  due = cond (starts-by-enable (settings r .mode)) (made-due r) (r .due);
+  active = true;
+  requested = r .requested;
+  serving = r .serving;
+}
+
+-- DE is cleared: a due word of DTM 1 and 5 drains first; other due words are lost, and the channel says so by an interrupt
+abbrev pub switched-off : Row → Row
+switched-off r =
+    let none-due = eqb (r .due) 0 in
+    let drains = by-words (settings r .mode) && not none-due in
+    record {
+      source = r .source;
+      destination = r .destination;
+      count = r .count;
+      preload = r .preload;
+      control = r .control;
+      due = cond drains (r .due) 0;
+      active = drains;
+      requested = r .requested || (settings r .interrupts && (not none-due && not drains));
+      serving = r .serving;
+    }
+
+abbrev pub with-control : Row → ℕ → Row
+with-control r word = record {
+  source = r .source;
+  destination = r .destination;
+  count = r .count;
+  preload = r .preload;
+  control = word;
+  due = r .due;
+  active = r .active;
+  requested = r .requested;
+  serving = r .serving;
+}
+
+abbrev pub after-control : Row → ℕ → Row
+after-control r word =
+    cond (enable (r .control))
+    (cond (enable word) r (switched-off (with-control r word)))
+    (cond (enable word) (switched-on (with-control r word)) (with-control r word))
+
+abbrev pub with-source : Row → ℕ → Row
+with-source r address = record {
+  source = address;
+  destination = r .destination;
+  count = r .count;
+  preload = r .preload;
+  control = r .control;
+  due = r .due;
+  active = r .active;
+  requested = r .requested;
+  serving = r .serving;
+}
+
+abbrev pub with-destination : Row → ℕ → Row
+with-destination r address = record {
+  source = r .source;
+  destination = address;
+  count = r .count;
+  preload = r .preload;
+  control = r .control;
+  due = r .due;
+  active = r .active;
+  requested = r .requested;
+  serving = r .serving;
+}
+
+-- a set of DCO fixes both count and preload
+abbrev pub with-counter : Row → ℕ → Row
+with-counter r word = record {
+  source = r .source;
+  destination = r .destination;
+  count = word;
+  preload = word;
+  control = r .control;
+  due = r .due;
+  active = r .active;
+  requested = r .requested;
+  serving = r .serving;
+}
+
+-- one row of the table changed
+abbrev pub change : State → ℕ → (Row → Row) → State
+change s c f = record { rows = set (s .rows) c (f (row-at (s .rows) c)); offsets = s .offsets; last = s .last }
+
+abbrev pub set-state : State → Register → ℕ → State
+set-state s register value =
+    elim register [
+      | Dsr c ↦ change s c (λ r. with-source r value)
+      | Ddr c ↦ change s c (λ r. with-destination r value)
+      | Dco c ↦ change s c (λ r. with-counter r value)
+      | Dcr c ↦ change s c (λ r. after-control r value)
+      | Dor i ↦ record { rows = s .rows; offsets = set (s .offsets) i value; last = s .last }
+      | Dstr ↦ s
+    ]
+
+-- a refused set changes nothing
+abbrev pub set-answer : State → Register → ℕ → Result (Unit {0}) Refusal
+set-answer s register value = elim (set-refusal s register value) [ None ↦ Ok tt | Some refusal ↦ Err refusal ]
+
+abbrev pub after-set : State → Register → ℕ → State
+after-set s register value = elim (set-refusal s register value) [ None ↦ set-state s register value | Some refusal ↦ s ]
