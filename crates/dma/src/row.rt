@@ -1,4 +1,14 @@
 // One channel of the controller.
+ghost use mathlib.Core.Path.{_≡_};
+ghost use Rattle.dma.specs.Channels.{settings, busy, draining, listens};
+use memory::place::Space;
+use registers::control::Settings;
+use registers::control::Shape;
+use registers::control::Spaces;
+use registers::control::TransferMode;
+use registers::counter::Layout;
+use registers::update::Update;
+use registers::control::TransferModePartialEq;
 
 // What a channel holds. After reset all of it is zero and false.
 #[derive(Clone, Copy, PartialEq, Eq, Debug)]
@@ -19,4 +29,55 @@ pub struct Row {
     pub requested: bool,
     // A service of the interrupt is open.
     pub serving: bool,
+}
+
+// The settings of a control word of 0, which no row needs: no channel has a reserved setting.
+const AT_RESET: Settings = Settings {
+    enabled: false,
+    interrupts: false,
+    mode: TransferMode::Block,
+    priority: 0,
+    continuous: false,
+    request: 0,
+    shape: Shape {
+        source: Update::TwoDimensional(0),
+        destination: Update::TwoDimensional(0),
+        layout: Layout::B,
+    },
+    spaces: Spaces {
+        source: Space::X,
+        destination: Space::X,
+    },
+};
+
+impl Row {
+    pub fn settings(&self) -> Settings
+        ensures value { λ r. ⌜ r ≡ settings (now (self .entry)) ⌝ }
+    {
+        Settings::decode(self.control).unwrap_or(AT_RESET)
+    }
+
+    // DE is 1, or the done bit is 0.
+    pub fn busy(&self) -> bool
+        ensures value { λ r. ⌜ r ≡ busy (now (self .entry)) ⌝ }
+    {
+        self.settings().enabled || self.active
+    }
+
+    // Busy with DE 0.
+    pub fn draining(&self) -> bool
+        ensures value { λ r. ⌜ r ≡ draining (now (self .entry)) ⌝ }
+    {
+        !self.settings().enabled && self.active
+    }
+
+    // DE is 1, the channel is not one that setting DE starts, and it has that source.
+    pub fn listens(&self, source: u8) -> bool
+        ensures value { λ r. ⌜ r ≡ listens source (now (self .entry)) ⌝ }
+    {
+        let settings = self.settings();
+        settings.enabled
+            && settings.mode != TransferMode::BlockByEnable
+            && settings.request == source
+    }
 }
