@@ -2,5 +2,8 @@ pub mod Arbitration
 pub mod Channels
 pub mod Raises
 pub mod Reads
+pub mod Refusing
+pub mod Services
 pub mod Sets
 pub mod State
+pub mod Stops

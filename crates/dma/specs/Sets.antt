@@ -7,14 +7,15 @@ use Rattle.std.specs.Options.{isSome}
 use Rattle.std.specs.declared.option.Option.{Option}
 use Rattle.std.specs.declared.option.Option.the-variants.{None, Some}
 use Rattle.std.specs.declared.result.Result.{Result}
-use Rattle.std.specs.declared.result.Result.the-variants.{Ok, Err}
 use Rattle.memory.specs.declared.refusal.Refusal.{Refusal}
 use Rattle.memory.specs.declared.refusal.Refusal.the-variants.{NoSuchRegister, ValueTooLarge, StatusIsRead, Busy, ReservedMode, ReservedShape, ReservedSpace, ShapeInMidBlock}
 use Rattle.registers.specs.Control.{field, enable, mode-of, mode-number, shape-of, spaces-of}
 use Rattle.dma.specs.declared.register.Register.{Register}
 use Rattle.dma.specs.declared.register.Register.the-variants.{Dsr, Ddr, Dco, Dcr, Dor, Dstr}
 use Rattle.dma.specs.declared.row.Row.{Row}
-use Rattle.dma.specs.Channels.{settings, busy, by-words, made-due, starts-by-enable}
+use Rattle.registers.specs.Counter.{position}
+use Rattle.dma.specs.Channels.{settings, preloaded, counted, busy, by-words, made-due, starts-by-enable}
+use Rattle.dma.specs.Refusing.{answer, unless}
 use Rattle.dma.specs.State.{State, row-at}
 
 -- the register does not exist
@@ -40,7 +41,7 @@ at-rest-refusal r word =
     cond (not (isSome (mode-of (mode-number word)))) (Some ReservedMode)
     (cond (not (isSome (shape-of word))) (Some ReservedShape)
     (cond (not (isSome (spaces-of word))) (Some ReservedSpace)
-    (cond (reshapes (r .control) word && not (eqb (r .count) (r .preload))) (Some ShapeInMidBlock) None)))
+    (cond (reshapes (r .control) word && not (eqb (position (preloaded r) (counted r)) 0)) (Some ShapeInMidBlock) None)))
 
 -- while DE is 1 only DE can be cleared; while the channel drains nothing can be set
 abbrev pub control-refusal : Row → ℕ → Option Refusal
@@ -78,22 +79,25 @@ switched-on r = record {
   serving = r .serving;
 }
 
--- DE is cleared: a due word of DTM 1 and 5 drains first; other due words are lost, and the channel says so by an interrupt
+-- the channel comes to rest; words still due are lost
+abbrev pub at-rest : Row → Bool → Row
+at-rest r requested = record {
+  source = r .source;
+  destination = r .destination;
+  count = r .count;
+  preload = r .preload;
+  control = r .control;
+  due = 0;
+  active = false;
+  requested = requested;
+  serving = r .serving;
+}
+
+-- DE is cleared: with nothing due the channel is done; a due word of DTM 1 and 5 drains first; other due words are lost, with an interrupt if DIE is 1
 abbrev pub switched-off : Row → Row
 switched-off r =
-    let none-due = eqb (r .due) 0 in
-    let drains = by-words (settings r .mode) && not none-due in
-    record {
-      source = r .source;
-      destination = r .destination;
-      count = r .count;
-      preload = r .preload;
-      control = r .control;
-      due = cond drains (r .due) 0;
-      active = drains;
-      requested = r .requested || (settings r .interrupts && (not none-due && not drains));
-      serving = r .serving;
-    }
+    cond (eqb (r .due) 0) (at-rest r (r .requested))
+    (cond (by-words (settings r .mode)) r (at-rest r (r .requested || settings r .interrupts)))
 
 abbrev pub with-control : Row → ℕ → Row
 with-control r word = record {
@@ -108,11 +112,11 @@ with-control r word = record {
   serving = r .serving;
 }
 
+-- the word is held, and DE rises, falls or stays
 abbrev pub after-control : Row → ℕ → Row
 after-control r word =
-    cond (enable (r .control))
-    (cond (enable word) r (switched-off (with-control r word)))
-    (cond (enable word) (switched-on (with-control r word)) (with-control r word))
+    let n = with-control r word in
+    cond (enable (r .control)) (cond (enable word) n (switched-off n)) (cond (enable word) (switched-on n) n)
 
 abbrev pub with-source : Row → ℕ → Row
 with-source r address = record {
@@ -171,7 +175,7 @@ set-state s register value =
 
 -- a refused set changes nothing
 abbrev pub set-answer : State → Register → ℕ → Result (Unit {0}) Refusal
-set-answer s register value = elim (set-refusal s register value) [ None ↦ Ok tt | Some refusal ↦ Err refusal ]
+set-answer s register value = answer (set-refusal s register value)
 
 abbrev pub after-set : State → Register → ℕ → State
-after-set s register value = elim (set-refusal s register value) [ None ↦ set-state s register value | Some refusal ↦ s ]
+after-set s register value = unless (set-refusal s register value) s (set-state s register value)

@@ -3,3 +3,4 @@ pub mod arbitration;
 pub mod bank;
 pub mod register;
 pub mod row;
+mod setting;

@@ -6,9 +6,9 @@ use registers::control::Settings;
 use registers::control::Shape;
 use registers::control::Spaces;
 use registers::control::TransferMode;
+use registers::control::TransferModePartialEq;
 use registers::counter::Layout;
 use registers::update::Update;
-use registers::control::TransferModePartialEq;
 
 // What a channel holds. After reset all of it is zero and false.
 #[derive(Clone, Copy, PartialEq, Eq, Debug)]

@@ -1,0 +1,85 @@
+// Setting the registers of one channel.
+ghost use mathlib.Core.Path.{_≡_};
+ghost use Rattle.dma.specs.Channels.{busy};
+ghost use Rattle.dma.specs.Refusing.{answer, unless};
+ghost use Rattle.dma.specs.Sets.{disabled, reshapes, if-busy, with-source, with-destination, with-counter, switched-off};
+use crate::row::Row;
+use memory::refusal::Refusal;
+use registers::control::TransferMode;
+
+// The control word with DE cleared.
+fn disabled(word: u32) -> u32
+    ensures value { λ r. ⌜ r ≡ disabled word ⌝ }
+{
+    word - (word >> 23) % 2 * 0x80_0000
+}
+
+// Whether D3D or DAM differ.
+fn reshapes(held: u32, word: u32) -> bool
+    ensures value { λ r. ⌜ r ≡ reshapes held word ⌝ }
+{
+    (held >> 4) % 0x80 != (word >> 4) % 0x80
+}
+
+impl Row {
+    fn refuse_if_busy(&self) -> Result<(), Refusal>
+        ensures value { λ r. ⌜ r ≡ answer (if-busy (now (self .entry))) ⌝ }
+    {
+        if self.busy() {
+            Err(Refusal::Busy)
+        } else {
+            Ok(())
+        }
+    }
+
+    pub fn set_source(&mut self, address: u32) -> Result<(), Refusal>
+        ensures value { λ r. ⌜ r ≡ answer (if-busy (now (self .entry))) ⌝ }
+        ensures after { λ _. ⌜ now (self .exit) ≡ unless (if-busy (now (self .entry))) (now (self .entry)) (with-source (now (self .entry)) address) ⌝ }
+    {
+        self.refuse_if_busy()?;
+        self.source = address;
+        Ok(())
+    }
+
+    pub fn set_destination(&mut self, address: u32) -> Result<(), Refusal>
+        ensures value { λ r. ⌜ r ≡ answer (if-busy (now (self .entry))) ⌝ }
+        ensures after { λ _. ⌜ now (self .exit) ≡ unless (if-busy (now (self .entry))) (now (self .entry)) (with-destination (now (self .entry)) address) ⌝ }
+    {
+        self.refuse_if_busy()?;
+        self.destination = address;
+        Ok(())
+    }
+
+    // Fixes both what is left of the block and what each block starts from.
+    pub fn set_counter(&mut self, word: u32) -> Result<(), Refusal>
+        ensures value { λ r. ⌜ r ≡ answer (if-busy (now (self .entry))) ⌝ }
+        ensures after { λ _. ⌜ now (self .exit) ≡ unless (if-busy (now (self .entry))) (now (self .entry)) (with-counter (now (self .entry)) word) ⌝ }
+    {
+        self.refuse_if_busy()?;
+        self.count = word;
+        self.preload = word;
+        Ok(())
+    }
+
+    // DE has been cleared: a due word of DTM 1 and 5 drains first, other due words are lost.
+    fn switch_off(&mut self)
+        ensures after { λ _. ⌜ now (self .exit) ≡ switched-off (now (self .entry)) ⌝ }
+    {
+        let settings = self.settings();
+        if self.due == 0 {
+            self.active = false;
+            return;
+        }
+        match settings.mode {
+            TransferMode::Word | TransferMode::WordKeepingEnable => {}
+            TransferMode::Block
+            | TransferMode::Line
+            | TransferMode::BlockByEnable
+            | TransferMode::BlockKeepingEnable => {
+                self.due = 0;
+                self.active = false;
+                self.requested = self.requested | settings.interrupts;
+            }
+        }
+    }
+}
