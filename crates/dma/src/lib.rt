@@ -3,4 +3,5 @@ pub mod arbitration;
 pub mod bank;
 pub mod register;
 pub mod row;
+mod serving;
 mod setting;
