@@ -1,9 +1,11 @@
 pub mod Arbitration
+pub mod Banks
 pub mod Channels
 pub mod Raises
 pub mod Reads
 pub mod Refusing
 pub mod Services
 pub mod Sets
+pub mod Soundness
 pub mod State
 pub mod Stops

@@ -1,6 +1,6 @@
 -- What a get of a register answers.
 use mathlib.Core.Bool.{Bool, cond, not, _||_}
-use mathlib.Core.List.{List, map}
+use mathlib.Core.List.{List, [], _∷_}
 use Prim.Native.Nat.{ℕ, _+_, _*_, _^_}
 use lib.Dec.{ltb}
 use lib.ListN.{getD}
@@ -19,12 +19,16 @@ use Rattle.dma.specs.Raises.{bit, mask}
 use Rattle.dma.specs.Sets.{unknown}
 use Rattle.dma.specs.State.{State, row-at}
 
+-- something of each of the six channels
+abbrev pub each : {T : Type 0} → (Row → T) → List Row → List T
+each f rows = f (row-at rows 0) ∷ f (row-at rows 1) ∷ f (row-at rows 2) ∷ f (row-at rows 3) ∷ f (row-at rows 4) ∷ f (row-at rows 5) ∷ []
+
 -- what arbitration looks at
 abbrev pub contest : State → Contest
 contest s = record {
-  due = map (λ r. ltb 0 (r .due)) (s .rows);
-  priority = map (λ r. settings r .priority) (s .rows);
-  continuous = map (λ r. settings r .continuous) (s .rows);
+  due = each (λ r. ltb 0 (r .due)) (s .rows);
+  priority = each (λ r. settings r .priority) (s .rows);
+  continuous = each (λ r. settings r .continuous) (s .rows);
   last = s .last;
 }
 

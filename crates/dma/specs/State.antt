@@ -1,9 +1,8 @@
 -- The state of a controller: its table of channels and what they share.
 use mathlib.Core.Bool.{false}
-use mathlib.Core.List.{List, [], _∷_, map}
+use mathlib.Core.List.{List}
 use Prim.Native.Nat.{ℕ}
 use lib.ListN.{getD, replicate}
-use Rattle.dma.specs.declared.bank.Bank.{Bank}
 use Rattle.dma.specs.declared.row.Row.{Row}
 
 pub record State : Type 0 where
@@ -30,6 +29,3 @@ row-at rows c = getD rows c reset-row
 -- at reset every register is 0, every channel is done, and every priority remembers channel 5
 abbrev pub reset : State
 reset = record { rows = replicate 6 reset-row; offsets = replicate 4 0; last = replicate 4 5 }
-
-abbrev pub state-of : Bank → State
-state-of b = record { rows = b .rows; offsets = b .offsets; last = b .last }
