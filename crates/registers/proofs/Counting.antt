@@ -51,9 +51,10 @@ nothing-moved-at-preload p = omega (arith, all-words-left-at-preload p)
 
 -- a number of two digits in base `base` tells both of them
 digits-apart : (a b c d base : ℕ) → b < base → d < base → a * base + b ≡ c * base + d → (a ≡ c) × (b ≡ d)
-digits-apart a b c d base low-b low-d e =
-    (sym (div-mul-add a base b low-b) ∙ ap (λ n. n / base) e ∙ div-mul-add c base d low-d,
-    sym (mod-mul-add a base b low-b) ∙ ap (λ n. n % base) e ∙ mod-mul-add c base d low-d)
+digits-apart a b c d base low-b low-d e = (
+  sym (div-mul-add a base b low-b) ∙ ap (λ n. n / base) e ∙ div-mul-add c base d low-d,
+  sym (mod-mul-add a base b low-b) ∙ ap (λ n. n % base) e ∙ mod-mul-add c base d low-d,
+)
 
 pub words-left-tell-fields : (p f g : Fields) → Within p f → Within p g → words-left p f ≡ words-left p g → f ≡ g
 words-left-tell-fields p f g in-f in-g e =
@@ -92,11 +93,12 @@ step-takes-one-word p f inside = one-word-less p (f .high) (f .middle) (f .low) 
 
 pub step-moves-one-word : (p f : Fields) → Within p f → ends-block f ≡ false → position p (stepped p f) ≡ position p f + 1
 step-moves-one-word p f w inside =
-    omega
-    (arith,
-    step-takes-one-word p f inside,
-    moved-and-left-make-block p f w,
-    moved-and-left-make-block p (stepped p f) (stepped-within p f w))
+    omega (
+      arith,
+      step-takes-one-word p f inside,
+      moved-and-left-make-block p f w,
+      moved-and-left-make-block p (stepped p f) (stepped-within p f w),
+    )
 
 pub block-end-returns-all : (p f : Fields) → ends-block f ≡ true → stepped p f ≡ p
 block-end-returns-all p f end = rw end
