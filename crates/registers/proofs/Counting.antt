@@ -1,6 +1,7 @@
 -- Words left and words moved, over the fields of a preload and of a count.
 use mathlib.Core.Path.{_≡_, refl, sym, ap, _∙_}
 use mathlib.Core.Bool.{true, false}
+use mathlib.Core.Logic.{_↔_}
 use Prim.Native.Nat.{ℕ, zero, suc, _+_, _-_, _*_, _/_, _%_, _≤_, _<_}
 use native.Mathlib.Nat.{mul-le-mul}
 use native.Mathlib.Omega.{arith}
@@ -66,8 +67,10 @@ pub position-tells-fields : (p f g : Fields) → Within p f → Within p g → p
 position-tells-fields p f g in-f in-g e =
     words-left-tell-fields p f g in-f in-g (omega (arith, moved-and-left-make-block p f in-f, moved-and-left-make-block p g in-g))
 
-pub nothing-moved-is-preload : (p f : Fields) → Within p f → position p f ≡ 0 → f ≡ p
-nothing-moved-is-preload p f w e = position-tells-fields p f p w (within-itself p) (e ∙ sym (nothing-moved-at-preload p))
+-- no word has moved exactly if every field is its preload
+pub nothing-moved-is-preload : (p f : Fields) → Within p f → (position p f ≡ 0) ↔ (f ≡ p)
+nothing-moved-is-preload p f w =
+    (λ none. position-tells-fields p f p w (within-itself p) (none ∙ sym (nothing-moved-at-preload p)), λ same. ap (position p) same ∙ nothing-moved-at-preload p)
 
 -- a step keeps to the room that preload and count keep to
 pub stepped-fits : (q p f : Fields) → Within q p → Within q f → Within q (stepped p f)

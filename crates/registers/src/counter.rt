@@ -1,5 +1,6 @@
 // The counter DCO: its fields, the block that it counts, and what it holds after a word.
 ghost use mathlib.Core.Path.{_≡_};
+ghost use mathlib.Core.Logic.{_↔_};
 ghost use Prim.Native.Nat.{_+_, _^_, _≤_, _<_};
 ghost use Rattle.registers.specs.Counter.{cut, joined, line-length, block-length, words-left, position, Within, ends-line, ends-plane, ends-block, stepped};
 ghost use Rattle.registers.specs.Laws.{largest, counted, Goes-on, Starts-again};
@@ -103,5 +104,44 @@ impl Layout {
             Layout::D => (high << 18) + (middle << 6) + low,
             Layout::E => (high << 18) + (middle << 12) + low,
         }
+    }
+
+    // L: the words of a line.
+    pub fn line_length(self, preload: u32) -> u32
+        ensures value { λ r. ⌜ r ≡ line-length (cut self preload) ⌝ }
+    {
+        self.cut(preload).low + 1
+    }
+
+    // N: the words of a block.
+    pub fn block_length(self, preload: u32) -> u32
+        ensures value { λ r. ⌜ r ≡ block-length (cut self preload) ⌝ }
+        ensures some_word { λ r. ⌜ 0 < r ⌝ }
+        ensures at_most_all_addresses { λ r. ⌜ r ≤ 2 ^ 24 ⌝ }
+    {
+        let full = self.cut(preload);
+        (full.low + 1) * (full.middle + 1) * (full.high + 1)
+    }
+
+    // The words of the block that are still to move.
+    pub fn words_left(self, preload: u32, count: u32) -> u32
+        ensures value { λ r. ⌜ r ≡ words-left (cut self preload) (cut self count) ⌝ }
+        ensures some_word { λ r. ⌜ 0 < r ⌝ }
+        ensures at_most_the_block { λ r. ⌜ (Within (cut self preload) (cut self count) → r ≤ block-length (cut self preload)) ⌝ }
+    {
+        let full = self.cut(preload);
+        let now = self.cut(count);
+        (now.high * (full.middle + 1) + now.middle) * (full.low + 1) + now.low + 1
+    }
+
+    // The words of the block that have moved.
+    pub fn position(self, preload: u32, count: u32) -> u32
+        ensures value { λ r. ⌜ r ≡ position (cut self preload) (cut self count) ⌝ }
+        ensures moved_and_left_make_the_block { λ r. ⌜ (Within (cut self preload) (cut self count) → r + words-left (cut self preload) (cut self count) ≡ block-length (cut self preload)) ⌝ }
+        ensures zero_exactly_at_the_preload { λ r. ⌜ (Within (cut self preload) (cut self count) → (r ≡ 0) ↔ (cut self count ≡ cut self preload)) ⌝ }
+        ensures zero_exactly_if_equal { λ r. ⌜ (preload < 2 ^ 24 → count < 2 ^ 24 → Within (cut self preload) (cut self count) → (r ≡ 0) ↔ (count ≡ preload)) ⌝ }
+    {
+        self.block_length(preload)
+            .saturating_sub(self.words_left(preload, count))
     }
 }
