@@ -1,3 +1,4 @@
 pub mod Control
 pub mod Counter
+pub mod Laws
 pub mod Updates
