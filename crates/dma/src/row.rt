@@ -1,6 +1,7 @@
 // One channel of the controller.
 ghost use mathlib.Core.Path.{_≡_};
-ghost use Rattle.dma.specs.Channels.{settings, busy, draining, listens};
+ghost use Rattle.dma.specs.Channels.{settings, busy, draining, listens, made-due, captures, misses};
+ghost use Rattle.dma.specs.Raises.{asked};
 use memory::place::Space;
 use registers::control::Settings;
 use registers::control::Shape;
@@ -79,5 +80,40 @@ impl Row {
         settings.enabled
             && settings.mode != TransferMode::BlockByEnable
             && settings.request == source
+    }
+
+    // What a request makes due: a word, the rest of the line or the rest of the block.
+    pub fn made_due(&self) -> u32
+        ensures value { λ r. ⌜ r ≡ made-due (now (self .entry)) ⌝ }
+    {
+        let settings = self.settings();
+        let layout = settings.shape.layout;
+        match settings.mode {
+            TransferMode::Word | TransferMode::WordKeepingEnable => 1,
+            TransferMode::Line => layout.line_length(self.count),
+            TransferMode::Block | TransferMode::BlockByEnable | TransferMode::BlockKeepingEnable =>
+                layout.words_left(self.preload, self.count),
+        }
+    }
+
+    // A request of a source makes words due if the channel listens to it and has none due.
+    pub fn ask(&mut self, source: u8)
+        ensures after { λ _. ⌜ now (self .exit) ≡ asked source (now (self .entry)) ⌝ }
+    {
+        if self.captures(source) {
+            self.due = self.made_due();
+        }
+    }
+
+    pub fn captures(&self, source: u8) -> bool
+        ensures value { λ r. ⌜ r ≡ captures source (now (self .entry)) ⌝ }
+    {
+        self.listens(source) && self.due == 0
+    }
+
+    pub fn misses(&self, source: u8) -> bool
+        ensures value { λ r. ⌜ r ≡ misses source (now (self .entry)) ⌝ }
+    {
+        self.listens(source) && self.due > 0
     }
 }

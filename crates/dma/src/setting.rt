@@ -2,10 +2,14 @@
 ghost use mathlib.Core.Path.{_≡_};
 ghost use Rattle.dma.specs.Channels.{busy};
 ghost use Rattle.dma.specs.Refusing.{answer, unless};
-ghost use Rattle.dma.specs.Sets.{disabled, reshapes, if-busy, with-source, with-destination, with-counter, switched-off};
+ghost use Rattle.dma.specs.Sets.{disabled, reshapes, if-busy, with-source, with-destination, with-counter, switched-off, switched-on, at-rest-refusal, control-refusal, after-control};
 use crate::row::Row;
 use memory::refusal::Refusal;
+use registers::control::Shape;
+use registers::control::Spaces;
 use registers::control::TransferMode;
+use registers::control::TransferModePartialEq;
+use registers::control::enabled;
 
 // The control word with DE cleared.
 fn disabled(word: u32) -> u32
@@ -81,5 +85,67 @@ impl Row {
                 self.requested = self.requested | settings.interrupts;
             }
         }
+    }
+
+    // DE has been set: in DTM 3 the rest of the block is due.
+    fn switch_on(&mut self)
+        ensures after { λ _. ⌜ now (self .exit) ≡ switched-on (now (self .entry)) ⌝ }
+    {
+        if self.settings().mode == TransferMode::BlockByEnable {
+            self.due = self.made_due();
+        }
+        self.active = true;
+    }
+
+    // What a control word for a channel at rest is refused with.
+    fn refuse_at_rest(&self, word: u32) -> Result<(), Refusal>
+        ensures value { λ r. ⌜ r ≡ answer (at-rest-refusal (now (self .entry)) word) ⌝ }
+    {
+        TransferMode::decode(word).ok_or(Refusal::ReservedMode)?;
+        Shape::decode(word).ok_or(Refusal::ReservedShape)?;
+        Spaces::decode(word).ok_or(Refusal::ReservedSpace)?;
+        let layout = self.settings().shape.layout;
+        if reshapes(self.control, word) && layout.position(self.preload, self.count) != 0 {
+            return Err(Refusal::ShapeInMidBlock);
+        }
+        Ok(())
+    }
+
+    // While DE is 1 it can only be cleared; while the channel drains nothing can be set.
+    fn refuse_control(&self, word: u32) -> Result<(), Refusal>
+        ensures value { λ r. ⌜ r ≡ answer (control-refusal (now (self .entry)) word) ⌝ }
+    {
+        if enabled(self.control) {
+            if word != self.control && word != disabled(self.control) {
+                return Err(Refusal::Busy);
+            }
+            return Ok(());
+        }
+        if self.active {
+            return Err(Refusal::Busy);
+        }
+        self.refuse_at_rest(word)
+    }
+
+    // Holds the word; DE rises, falls or stays.
+    fn take_control(&mut self, word: u32)
+        ensures after { λ _. ⌜ now (self .exit) ≡ after-control (now (self .entry)) word ⌝ }
+    {
+        let was = enabled(self.control);
+        self.control = word;
+        match (was, enabled(word)) {
+            (true, false) => self.switch_off(),
+            (false, true) => self.switch_on(),
+            (true, true) | (false, false) => {}
+        }
+    }
+
+    pub fn set_control(&mut self, word: u32) -> Result<(), Refusal>
+        ensures value { λ r. ⌜ r ≡ answer (control-refusal (now (self .entry)) word) ⌝ }
+        ensures after { λ _. ⌜ now (self .exit) ≡ unless (control-refusal (now (self .entry)) word) (now (self .entry)) (after-control (now (self .entry)) word) ⌝ }
+    {
+        self.refuse_control(word)?;
+        self.take_control(word);
+        Ok(())
     }
 }
