@@ -1,7 +1,9 @@
 // The counter DCO: its fields, the block that it counts, and what it holds after a word.
 ghost use mathlib.Core.Path.{_≡_};
+ghost use mathlib.Core.Bool.{true, false};
 ghost use mathlib.Core.Logic.{_↔_};
 ghost use Prim.Native.Nat.{_+_, _^_, _≤_, _<_};
+ghost use Rattle.std.specs.Orderings.{Decides};
 ghost use Rattle.registers.specs.Counter.{cut, joined, line-length, block-length, words-left, position, Within, ends-line, ends-plane, ends-block, stepped};
 ghost use Rattle.registers.specs.Laws.{largest, counted, Goes-on, Starts-again};
 use crate::control::field;
@@ -143,5 +145,32 @@ impl Layout {
     {
         self.block_length(preload)
             .saturating_sub(self.words_left(preload, count))
+    }
+
+    // Whether no field of the count exceeds its preload.
+    pub fn within(self, preload: u32, count: u32) -> bool
+        ensures value { λ r. ⌜ Decides r (Within (cut self preload) (cut self count)) ⌝ }
+    {
+        let full = self.cut(preload);
+        let now = self.cut(count);
+        now.high <= full.high && now.middle <= full.middle && now.low <= full.low
+    }
+
+    // The counter after a word.
+    pub fn step(self, preload: u32, count: u32) -> Counted
+        ensures value { λ r. ⌜ r ≡ counted self preload count ⌝ }
+        ensures below { λ r. ⌜ r .count < 2 ^ 24 ⌝ }
+        ensures fields_are_stepped { λ r. ⌜ cut self (r .count) ≡ stepped (cut self preload) (cut self count) ⌝ }
+        ensures stays_within { λ r. ⌜ (Within (cut self preload) (cut self count) → Within (cut self preload) (cut self (r .count))) ⌝ }
+        ensures goes_on { λ r. ⌜ (Within (cut self preload) (cut self count) → r .ended ≡ false → Goes-on (cut self preload) (cut self count) (cut self (r .count))) ⌝ }
+        ensures starts_again { λ r. ⌜ (r .ended ≡ true → Starts-again (cut self preload) (cut self count) (cut self (r .count))) ⌝ }
+        ensures is_the_preload_again { λ r. ⌜ (r .ended ≡ true → preload < 2 ^ 24 → r .count ≡ preload) ⌝ }
+    {
+        let now = self.cut(count);
+        let after = now.stepped(self.cut(preload));
+        Counted {
+            count: self.joined(after),
+            ended: now.ends_block(),
+        }
     }
 }
