@@ -1,3 +1,4 @@
+pub mod Changes
 pub mod ControlSets
 pub mod Refusals
 pub mod SoundRows

@@ -27,6 +27,15 @@ unknown (Dcr c) = ltb 5 c
 unknown (Dor i) = ltb 3 i
 unknown Dstr = false
 
+-- the channel that a register belongs to
+abbrev pub channel-of : Register → Option ℕ
+channel-of (Dsr c) = Some c
+channel-of (Ddr c) = Some c
+channel-of (Dco c) = Some c
+channel-of (Dcr c) = Some c
+channel-of (Dor i) = None
+channel-of Dstr = None
+
 -- the held control word with DE cleared
 abbrev pub disabled : ℕ → ℕ
 disabled word = word - field 23 1 word * 2 ^ 23
@@ -52,18 +61,10 @@ control-refusal r word =
 abbrev pub if-busy : Row → Option Refusal
 if-busy r = cond (busy r) (Some Busy) None
 
-abbrev pub set-refusal : State → Register → ℕ → Option Refusal
-set-refusal s register value =
-    cond (unknown register) (Some NoSuchRegister)
-    (cond (ltb 0xFFFFFF value) (Some ValueTooLarge)
-    (elim register [
-      | Dsr c ↦ if-busy (row-at (s .rows) c)
-      | Ddr c ↦ if-busy (row-at (s .rows) c)
-      | Dco c ↦ if-busy (row-at (s .rows) c)
-      | Dcr c ↦ control-refusal (row-at (s .rows) c) value
-      | Dor i ↦ None
-      | Dstr ↦ Some StatusIsRead
-    ]))
+-- what a set of a channel's own register is refused with
+abbrev pub row-refusal : Row → Register → ℕ → Option Refusal
+row-refusal r register value =
+    elim register [ Dsr c ↦ if-busy r | Ddr c ↦ if-busy r | Dco c ↦ if-busy r | Dcr c ↦ control-refusal r value | Dor i ↦ None | Dstr ↦ None ]
 
 -- DE is set from 0: the channel is active, and in DTM 3 the rest of the block is due
 abbrev pub switched-on : Row → Row
@@ -158,20 +159,41 @@ with-counter r word = record {
   serving = r .serving;
 }
 
+-- what it leaves of the channel
+abbrev pub row-set : Row → Register → ℕ → Row
+row-set r register value =
+    elim register [
+      | Dsr c ↦ with-source r value
+      | Ddr c ↦ with-destination r value
+      | Dco c ↦ with-counter r value
+      | Dcr c ↦ after-control r value
+      | Dor i ↦ r
+      | Dstr ↦ r
+    ]
+
 -- one row of the table changed
 abbrev pub change : State → ℕ → (Row → Row) → State
 change s c f = record { rows = set (s .rows) c (f (row-at (s .rows) c)); offsets = s .offsets; last = s .last }
 
+abbrev pub with-offset : State → ℕ → ℕ → State
+with-offset s i value = record { rows = s .rows; offsets = set (s .offsets) i value; last = s .last }
+
+-- what a set of what the channels share is refused with, and leaves
+abbrev pub shared-refusal : Register → Option Refusal
+shared-refusal = elim [ Dsr c ↦ None | Ddr c ↦ None | Dco c ↦ None | Dcr c ↦ None | Dor i ↦ None | Dstr ↦ Some StatusIsRead ]
+
+abbrev pub shared-set : State → Register → ℕ → State
+shared-set s register value = elim register [ Dsr c ↦ s | Ddr c ↦ s | Dco c ↦ s | Dcr c ↦ s | Dor i ↦ with-offset s i value | Dstr ↦ s ]
+
+abbrev pub set-refusal : State → Register → ℕ → Option Refusal
+set-refusal s register value =
+    cond (unknown register) (Some NoSuchRegister)
+    (cond (ltb 0xFFFFFF value) (Some ValueTooLarge)
+    (elim (channel-of register) [ Some c ↦ row-refusal (row-at (s .rows) c) register value | None ↦ shared-refusal register ]))
+
 abbrev pub set-state : State → Register → ℕ → State
 set-state s register value =
-    elim register [
-      | Dsr c ↦ change s c (λ r. with-source r value)
-      | Ddr c ↦ change s c (λ r. with-destination r value)
-      | Dco c ↦ change s c (λ r. with-counter r value)
-      | Dcr c ↦ change s c (λ r. after-control r value)
-      | Dor i ↦ record { rows = s .rows; offsets = set (s .offsets) i value; last = s .last }
-      | Dstr ↦ s
-    ]
+    elim (channel-of register) [ Some c ↦ change s c (λ r. row-set r register value) | None ↦ shared-set s register value ]
 
 -- a refused set changes nothing
 abbrev pub set-answer : State → Register → ℕ → Result (Unit {0}) Refusal

@@ -9,6 +9,7 @@ use crate::row::Row;
 
 mod making;
 mod reading;
+mod writing;
 
 #[derive(Drop)]
 pub struct Bank {

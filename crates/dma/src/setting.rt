@@ -2,7 +2,8 @@
 ghost use mathlib.Core.Path.{_≡_};
 ghost use Rattle.dma.specs.Channels.{busy};
 ghost use Rattle.dma.specs.Refusing.{answer, unless};
-ghost use Rattle.dma.specs.Sets.{disabled, reshapes, if-busy, with-source, with-destination, with-counter, switched-off, switched-on, at-rest-refusal, control-refusal, after-control};
+ghost use Rattle.dma.specs.Sets.{disabled, reshapes, if-busy, with-source, with-destination, with-counter, switched-off, switched-on, at-rest-refusal, control-refusal, after-control, row-refusal, row-set};
+use crate::register::Register;
 use crate::row::Row;
 use memory::refusal::Refusal;
 use registers::control::Shape;
@@ -147,5 +148,19 @@ impl Row {
         self.refuse_control(word)?;
         self.take_control(word);
         Ok(())
+    }
+
+    // Sets a register of this channel; the offsets and the status are no channel's.
+    pub fn set(&mut self, register: Register, value: u32) -> Result<(), Refusal>
+        ensures value { λ r. ⌜ r ≡ answer (row-refusal (now (self .entry)) register value) ⌝ }
+        ensures after { λ _. ⌜ now (self .exit) ≡ unless (row-refusal (now (self .entry)) register value) (now (self .entry)) (row-set (now (self .entry)) register value) ⌝ }
+    {
+        match register {
+            Register::Dsr(_) => self.set_source(value),
+            Register::Ddr(_) => self.set_destination(value),
+            Register::Dco(_) => self.set_counter(value),
+            Register::Dcr(_) => self.set_control(value),
+            Register::Dor(_) | Register::Dstr => Ok(()),
+        }
     }
 }

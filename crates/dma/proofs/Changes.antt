@@ -1,0 +1,52 @@
+-- One row of the table is changed by a call that may be refused.
+use mathlib.Core.Path.{_≡_, refl, sym, ap, subst, _∙_}
+use mathlib.Core.Bool.{Bool, true, false, cond, _||_}
+use mathlib.Core.List.{List}
+use Prim.Native.Nat.{ℕ, _^_, _<_}
+use native.Mathlib.Omega.{arith}
+use lib.ListN.{set}
+use Rattle.std.proofs.shelf.Lists.{set-getD}
+use Rattle.std.proofs.shelf.Tests.{or-parts}
+use Rattle.std.specs.declared.option.Option.{Option}
+use Rattle.std.specs.declared.option.Option.the-variants.{None, Some}
+use Rattle.memory.specs.declared.refusal.Refusal.{Refusal}
+use Rattle.memory.specs.declared.refusal.Refusal.the-variants.{Busy}
+use Rattle.dma.specs.declared.register.Register.{Register}
+use Rattle.dma.specs.declared.register.Register.the-variants.{Dsr, Ddr, Dco, Dcr, Dor, Dstr}
+use Rattle.dma.specs.declared.row.Row.{Row}
+use Rattle.dma.specs.Channels.{settings, busy}
+use Rattle.dma.specs.Refusing.{unless}
+use Rattle.dma.specs.Sets.{if-busy, control-refusal, row-refusal, row-set, change}
+use Rattle.dma.specs.Soundness.{sound}
+use Rattle.dma.specs.State.{State, reset-row, row-at}
+use Rattle.dma.proofs.ControlSets.{control-set}
+use Rattle.dma.proofs.SoundRows.{Sound, opened, closed, source-set, destination-set, counter-set}
+
+abbrev with-row : State → ℕ → Row → State
+with-row s c r = record { rows = set (s .rows) c r; offsets = s .offsets; last = s .last }
+
+pub row-changed : (s : State) (c : ℕ) (o : Option Refusal) (f : Row → Row) (r : Row) → r ≡ unless o (row-at (s .rows) c) (f (row-at (s .rows) c)) → with-row s c r ≡ unless o s (change s c f)
+row-changed s c None f r e = ap (with-row s c) e
+row-changed s c (Some refusal) f r e = ap (with-row s c) e ∙ (λ i. record { rows = set-getD (s .rows) c reset-row i; offsets = s .offsets; last = s .last })
+
+-- a refused call keeps the row, an accepted one makes it f of itself
+kept-or : (P : Row → Type 0) (o : Option Refusal) (r n : Row) → P r → (o ≡ None → P n) → P (unless o r n)
+kept-or P None r n old new = new refl
+kept-or P (Some refusal) r n old new = old
+
+pub sound-unless : (o : Option Refusal) (r n q : Row) → q ≡ unless o r n → sound r ≡ true → (o ≡ None → Sound r → Sound n) → sound q ≡ true
+sound-unless o r n q e s keeps =
+    subst (λ x. sound x ≡ true) (sym e) (kept-or (λ x. sound x ≡ true) o r n s (λ none. closed n (keeps none (opened r s))))
+
+not-busy : (e a : Bool) → cond (e || a) (Some Busy) None ≡ None → a ≡ false
+not-busy true a h = absurd (let z : _≡_ {A = ℕ} 0 1 = cc in omega arith)
+not-busy false true h = absurd (let z : _≡_ {A = ℕ} 0 1 = cc in omega arith)
+not-busy false false h = refl
+
+pub row-set-keeps : (r : Row) (register : Register) (value : ℕ) → value < 2 ^ 24 → row-refusal r register value ≡ None → Sound r → Sound (row-set r register value)
+row-set-keeps r (Dsr c) value fits e s = source-set r value fits s
+row-set-keeps r (Ddr c) value fits e s = destination-set r value fits s
+row-set-keeps r (Dco c) value fits e s = counter-set r value fits (not-busy (settings r .enabled) (r .active) e) s
+row-set-keeps r (Dcr c) value fits e s = control-set r value s fits e
+row-set-keeps r (Dor i) value fits e s = s
+row-set-keeps r Dstr value fits e s = s
