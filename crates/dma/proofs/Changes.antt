@@ -17,9 +17,11 @@ use Rattle.dma.specs.declared.row.Row.{Row}
 use Rattle.dma.specs.Channels.{settings, busy}
 use Rattle.dma.specs.Refusing.{unless}
 use Rattle.dma.specs.Sets.{if-busy, control-refusal, row-refusal, row-set, change}
+use Rattle.dma.specs.Services.{with-service}
 use Rattle.dma.specs.Soundness.{sound}
 use Rattle.dma.specs.State.{State, reset-row, row-at}
 use Rattle.dma.proofs.ControlSets.{control-set}
+use Rattle.dma.proofs.Tables.{all-of-set}
 use Rattle.dma.proofs.SoundRows.{Sound, opened, closed, source-set, destination-set, counter-set}
 
 abbrev with-row : State → ℕ → Row → State
@@ -50,3 +52,22 @@ row-set-keeps r (Dco c) value fits e s = counter-set r value fits (not-busy (set
 row-set-keeps r (Dcr c) value fits e s = control-set r value s fits e
 row-set-keeps r (Dor i) value fits e s = s
 row-set-keeps r Dstr value fits e s = s
+
+-- interrupts and services touch nothing that soundness speaks of
+pub service-keeps : (r : Row) (requested serving : Bool) → Sound r → Sound (with-service r requested serving)
+service-keeps r requested serving s = record {
+  source = s .source;
+  destination = s .destination;
+  count = s .count;
+  preload = s .preload;
+  control = s .control;
+  decodes = s .decodes;
+  counts = s .counts;
+  due = s .due;
+  due-active = s .due-active;
+  enabled-active = s .enabled-active;
+}
+
+-- the table with one row changed is sound again
+pub sound-table : (rows : List Row) (c : ℕ) (o : Option Refusal) (f : Row → Row) (q : Row) → q ≡ unless o (row-at rows c) (f (row-at rows c)) → ((k : ℕ) → sound (row-at rows k) ≡ true) → (o ≡ None → Sound (row-at rows c) → Sound (f (row-at rows c))) → (k : ℕ) → sound (row-at (set rows c q) k) ≡ true
+sound-table rows c o f q e all keeps = all-of-set (λ x. sound x ≡ true) rows c q reset-row all (sound-unless o (row-at rows c) (f (row-at rows c)) q e (all c) keeps)

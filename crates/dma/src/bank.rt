@@ -8,7 +8,9 @@ ghost use Rattle.dma.specs.State.{row-at};
 use crate::row::Row;
 
 mod making;
+mod raising;
 mod reading;
+mod serving;
 mod writing;
 
 #[derive(Drop)]

@@ -1,11 +1,7 @@
-use mathlib.Core.Bool.{true}
-use mathlib.Core.Path.{_≡_}
 use Rattle.dma.specs.Banks.{state-of}
 use Rattle.dma.specs.Sets.{row-refusal, row-set}
-use Rattle.dma.specs.Soundness.{sound}
-use Rattle.dma.specs.State.{reset-row, row-at}
-use Rattle.dma.proofs.Changes.{row-changed, sound-unless, row-set-keeps}
-use Rattle.dma.proofs.Tables.{all-of-set}
+use Rattle.dma.specs.State.{row-at}
+use Rattle.dma.proofs.Changes.{row-changed, sound-table, row-set-keeps}
 use Rattle.dma.proofs.bank.Bank.set_row.Needs as need
 
 pub ghost-self : need.ghost-self
@@ -14,8 +10,7 @@ ghost-self c =
     let r = row-at (b .rows) (c .args .c) in
     let register = c .args .register in
     let value = c .args .value in
-    let kept = sound-unless (row-refusal r register value) r (row-set r register value) _ (c .set-answer .ensures .after) (b .channels (c .args .c)) (row-set-keeps r register value (c .pre .1)) in
-    (all-of-set (λ x. sound x ≡ true) (b .rows) (c .args .c) _ reset-row (b .channels) kept, (b .words, (b .remembered, tt)))
+    (sound-table (b .rows) (c .args .c) (row-refusal r register value) (λ x. row-set x register value) _ (c .set-answer .ensures .after) (b .channels) (row-set-keeps r register value (c .pre .1)), (b .words, (b .remembered, tt)))
 
 pub returns : need.returns
 returns c =
