@@ -6,7 +6,7 @@ use mathlib.Core.Logic.{⊎-elim}
 use Prim.Native.Nat.{ℕ, _+_, _<_, _≤_}
 use native.Mathlib.Omega.{arith}
 use lib.ListN.{length, getD, set, replicate, take, drop}
-use Rattle.std.proofs.shelf.Lists.{getD-replicate, getD-past, length-replicate, getD-set-same, getD-set-other, set-past, length-append, length-map, length-take, length-drop, getD-default, take-all, drop-all}
+use Rattle.std.proofs.shelf.Lists.{getD-replicate, getD-past, length-replicate, getD-set-same, getD-set-other, set-past, length-append, length-map, length-take, length-drop, getD-default, take-all, drop-all, getD-map}
 use Rattle.std.proofs.shelf.Edits.{map-over-more}
 use Rattle.std.proofs.shelf.Tests.{cases-eq, cases-lt}
 
@@ -28,6 +28,15 @@ module _ {T : Type 0} (P : T → Type 0) where
       (cases-lt i (length xs)))
       (λ ne. subst P (sym (getD-set-other xs i k x d ne)) (all k))
       (cases-eq k i)
+
+  pub all-of-map : (f : T → T) (xs : List T) (d : T) → ((k : ℕ) → P (getD xs k d)) → ((x : T) → P x → P (f x)) → (k : ℕ) → P (getD (map f xs) k d)
+  all-of-map f xs d all keeps k =
+      ⊎-elim
+      (λ h. subst P (sym (getD-map f xs k d d h)) (keeps _ (all k)))
+      (λ h.
+      let past : length (map f xs) ≤ k = simp length-map h in
+      subst P (sym (getD-past (map f xs) k d past)) (subst P (getD-past xs k d h) (all k)))
+      (cases-lt k (length xs))
 
 -- a loop that maps a table in place: one more entry, and all of them
 module _ {T : Type 0} (f : T → T) (xs ys : List T) (i : ℕ) (long : length xs ≡ 6) (sofar : ys ≡ map f (take i xs) ++ drop i xs) where
