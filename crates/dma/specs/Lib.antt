@@ -1,4 +1,5 @@
 pub mod Arbitration
+pub mod ArbitrationLaws
 pub mod Channels
 pub mod Raises
 pub mod Reads

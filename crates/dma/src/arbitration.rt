@@ -3,9 +3,11 @@ ghost use mathlib.Core.Path.{_≡_};
 ghost use mathlib.Core.Bool.{true};
 ghost use Prim.Native.Nat.{_+_, _%_, _<_};
 ghost use Rattle.dma.specs.Arbitration.{competes, any-competes, upward, served-at, winner};
+ghost use Rattle.dma.specs.ArbitrationLaws.{WellMade, Arbitrates};
 
-// How many channels take part.
 const CHANNELS: u8 = 6;
+
+const PRIORITIES: u8 = 4;
 
 // All that arbitration looks at: which channels have words due, their priorities and DCON bits, and which channel each priority served last.
 #[derive(Clone, Copy, PartialEq, Eq, Debug)]
@@ -20,16 +22,22 @@ impl Contest {
     // The channel that the next slot serves, if any has words due.
     pub fn winner(&self) -> Option<u8>
         ensures value { λ r. ⌜ r ≡ winner (now (self .entry)) ⌝ }
+        ensures lawful { λ r. ⌜ (WellMade (now (self .entry)) → Arbitrates (now (self .entry)) r) ⌝ }
     {
-        if self.any_competes(3) {
-            self.served_at(3)
-        } else if self.any_competes(2) {
-            self.served_at(2)
-        } else if self.any_competes(1) {
-            self.served_at(1)
-        } else {
-            self.served_at(0)
+        self.served_at(self.highest())
+    }
+
+    // The highest priority at which a channel competes, or 0: the one that picks the winner.
+    fn highest(&self) -> u8
+        ensures picks { λ r. ⌜ winner (now (self .entry)) ≡ served-at (now (self .entry)) r ⌝ }
+        ensures a_priority { λ r. ⌜ r < 4 ⌝ }
+    {
+        for priority in (1..PRIORITIES).rev() {
+            if self.any_competes(priority) {
+                return priority;
+            }
         }
+        0
     }
 
     // Among equals the remembered channel goes on if it is continuous; else the next one upward has its turn.
