@@ -57,7 +57,7 @@ impl Contest {
         ensures value { λ r. ⌜ r ≡ upward (now (self .entry)) priority 6 first ⌝ }
     {
         let mut channel = first;
-        for tried in 0..CHANNELS {
+        for _ in 0..CHANNELS {
             if self.competes(priority, channel) {
                 return Some(channel);
             }
@@ -95,3 +95,6 @@ fn after(channel: u8) -> u8
 {
     ((channel as u16 + 1) % 6) as u8
 }
+
+#[cfg(test)]
+mod tests;

@@ -4,12 +4,12 @@ use Rattle.dma.proofs.arbitration.Contest.upward.Needs as need
 
 pub returns-then-competes : need.returns-then-competes
 returns-then-competes c =
-    record { value = sym (c .loop-tried .inv ∙ upward-here (c .args .self .now) _ _ _ (c .loop-tried-test .taken) (sym (c .if-competes .ensures tt .value))) }
+    record { value = sym (c .loop .inv ∙ upward-here (c .args .self .now) _ _ _ (c .loop-test .taken) (sym (c .if-competes .ensures tt .value))) }
 
-pub loop-tried-again : need.loop-tried-again
-loop-tried-again c =
-    c .loop-tried .inv
-    ∙ upward-on (c .args .self .now) _ _ _ _ (c .loop-tried-test .taken) (sym (c .if-competes .ensures tt .value)) (c .after-channel .ensures .value)
+pub loop-again : need.loop-again
+loop-again c =
+    c .loop .inv
+    ∙ upward-on (c .args .self .now) _ _ _ _ (c .loop-test .taken) (sym (c .if-competes .ensures tt .value)) (c .after-channel .ensures .value)
 
 pub returns : need.returns
-returns c = record { value = sym (c .loop-tried .inv ∙ upward-out (c .args .self .now) _ _ _ (c .loop-tried-test .left)) }
+returns c = record { value = sym (c .loop .inv ∙ upward-out (c .args .self .now) _ _ _ (c .loop-test .left)) }
