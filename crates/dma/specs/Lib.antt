@@ -1,5 +1,6 @@
 pub mod Arbitration
 pub mod Banks
+pub mod ArbitrationLaws
 pub mod Channels
 pub mod Raises
 pub mod Reads

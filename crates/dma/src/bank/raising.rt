@@ -21,7 +21,7 @@ fn bit(is_in: bool, value: u8) -> u8
 }
 
 // The channels that are in, bit c for channel c.
-fn mask(is_in: [bool; 6]) -> u8
+pub fn mask(is_in: [bool; 6]) -> u8
     ensures value { λ r. ⌜ r ≡ bit (getD «is_in» 0 false) 0 + bit (getD «is_in» 1 false) 1 + bit (getD «is_in» 2 false) 2 + bit (getD «is_in» 3 false) 3 + bit (getD «is_in» 4 false) 4 + bit (getD «is_in» 5 false) 5 ⌝ }
 {
     bit(is_in[0], 1)

@@ -1,10 +1,11 @@
 // Reading the registers.
 ghost use mathlib.Core.Path.{_≡_};
 ghost use Rattle.dma.specs.Banks.{state-of};
-ghost use Rattle.dma.specs.Reads.{contest, get-answer};
+ghost use Rattle.dma.specs.Reads.{contest, status, get-answer};
 ghost use Rattle.dma.specs.Sets.{unknown};
 use crate::arbitration::Contest;
 use crate::bank::Bank;
+use crate::bank::raising::mask;
 use crate::register::Register;
 use memory::refusal::Refusal;
 
@@ -64,6 +65,41 @@ impl Bank {
                 s[5].continuous,
             ],
             last: self.last,
+        }
+    }
+
+    // Done bits, activity in bit 8, and in bits 9 to 11 the channel that the next slot would serve.
+    fn status(&self) -> u32
+        ensures value { λ r. ⌜ r ≡ status (state-of (now (self .entry))) ⌝ }
+    {
+        let rows = self.rows;
+        let done = mask([
+            !rows[0].active,
+            !rows[1].active,
+            !rows[2].active,
+            !rows[3].active,
+            !rows[4].active,
+            !rows[5].active,
+        ]);
+        match self.contest().winner() {
+            Some(next) => u32::from(done) + 0x100 + u32::from(next) * 0x200,
+            None => u32::from(done),
+        }
+    }
+
+    pub fn get(&self, register: Register) -> Result<u32, Refusal>
+        ensures value { λ r. ⌜ r ≡ get-answer (state-of (now (self .entry))) register ⌝ }
+    {
+        if register.unknown() {
+            return Err(Refusal::NoSuchRegister);
+        }
+        match register {
+            Register::Dsr(c) => Ok(self.rows[c as usize].source),
+            Register::Ddr(c) => Ok(self.rows[c as usize].destination),
+            Register::Dco(c) => Ok(self.rows[c as usize].count),
+            Register::Dcr(c) => Ok(self.rows[c as usize].control),
+            Register::Dor(i) => Ok(self.offsets[i as usize]),
+            Register::Dstr => Ok(self.status()),
         }
     }
 }
