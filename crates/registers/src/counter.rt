@@ -164,6 +164,7 @@ impl Layout {
         ensures stays_within { λ r. ⌜ (Within (cut self preload) (cut self count) → Within (cut self preload) (cut self (r .count))) ⌝ }
         ensures goes_on { λ r. ⌜ (Within (cut self preload) (cut self count) → r .ended ≡ false → Goes-on (cut self preload) (cut self count) (cut self (r .count))) ⌝ }
         ensures starts_again { λ r. ⌜ (r .ended ≡ true → Starts-again (cut self preload) (cut self count) (cut self (r .count))) ⌝ }
+        ensures ends_exactly_at_the_last_word { λ r. ⌜ (r .ended ≡ true) ↔ (words-left (cut self preload) (cut self count) ≡ 1) ⌝ }
         ensures is_the_preload_again { λ r. ⌜ (r .ended ≡ true → preload < 2 ^ 24 → r .count ≡ preload) ⌝ }
     {
         let now = self.cut(count);
