@@ -108,3 +108,13 @@ block-end-returns-all p f end = rw end
 
 pub block-end-at-last-word : (p f : Fields) → ends-block f ≡ true → words-left p f ≡ 1
 block-end-at-last-word p f end = grind (arith, tells)
+
+pub last-word-ends-block : (p f : Fields) → words-left p f ≡ 1 → ends-block f ≡ true
+last-word-ends-block p f last =
+    let high : f .high ≡ 0 = omega arith in
+    let middle : f .middle ≡ 0 = omega arith in
+    let low : f .low ≡ 0 = omega arith in
+    rw (high, middle, low)
+
+pub block-ends-exactly-at-last-word : (p f : Fields) → (ends-block f ≡ true) ↔ (words-left p f ≡ 1)
+block-ends-exactly-at-last-word p f = (block-end-at-last-word p f, last-word-ends-block p f)

@@ -66,30 +66,35 @@ pub(crate) fn field(at: u32, width: u32, word: u32) -> u32
     (word >> at) % (1 << width)
 }
 
+// DE: the channel takes requests.
 pub fn enabled(word: u32) -> bool
     ensures value { λ r. ⌜ r ≡ enable word ⌝ }
 {
     field(23, 1, word) == 1
 }
 
+// DIE: the channel requests interrupts.
 pub fn interrupts(word: u32) -> bool
     ensures value { λ r. ⌜ r ≡ interrupt-enable word ⌝ }
 {
     field(22, 1, word) == 1
 }
 
+// DPR: 0 to 3, 3 the highest.
 pub fn priority(word: u32) -> u8
     ensures value { λ r. ⌜ r ≡ priority word ⌝ }
 {
     field(17, 2, word) as u8
 }
 
+// DCON: the channel goes on before its equals.
 pub fn continuous(word: u32) -> bool
     ensures value { λ r. ⌜ r ≡ continuous word ⌝ }
 {
     field(16, 1, word) == 1
 }
 
+// DRS: the request source that the channel listens to.
 pub fn request_source(word: u32) -> u8
     ensures value { λ r. ⌜ r ≡ request-source word ⌝ }
 {
@@ -127,6 +132,7 @@ fn update_of(beside: bool, code: u32) -> Option<Update>
     }
 }
 
+// A if neither side has an offset.
 fn flat_layout(source: u32, destination: u32) -> Layout
     ensures value { λ r. ⌜ r ≡ flat-layout source destination ⌝ }
 {

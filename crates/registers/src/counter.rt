@@ -34,18 +34,21 @@ pub struct Counted {
 }
 
 impl Fields {
+    // A word that is moved at this count is the last of its line.
     pub fn ends_line(self) -> bool
         ensures value { λ r. ⌜ r ≡ ends-line self ⌝ }
     {
         self.low == 0
     }
 
+    // It is the last of its plane.
     pub fn ends_plane(self) -> bool
         ensures value { λ r. ⌜ r ≡ ends-plane self ⌝ }
     {
         self.ends_line() && self.middle == 0
     }
 
+    // It is the last of the block.
     pub fn ends_block(self) -> bool
         ensures value { λ r. ⌜ r ≡ ends-block self ⌝ }
     {
@@ -78,10 +81,11 @@ impl Fields {
 }
 
 impl Layout {
-    // The fields of a counter.
+    // The fields of a counter; the bits above the 24 are no part of any.
     pub fn cut(self, word: u32) -> Fields
         ensures value { λ r. ⌜ r ≡ cut self word ⌝ }
         ensures fits { λ r. ⌜ Within (largest self) r ⌝ }
+        ensures parts_the_whole_word { λ r. ⌜ (word < 2 ^ 24 → joined self r ≡ word) ⌝ }
     {
         let (high, middle, low) = match self {
             Layout::A => (0, 0, field(0, 24, word)),
@@ -164,6 +168,7 @@ impl Layout {
         ensures stays_within { λ r. ⌜ (Within (cut self preload) (cut self count) → Within (cut self preload) (cut self (r .count))) ⌝ }
         ensures goes_on { λ r. ⌜ (Within (cut self preload) (cut self count) → r .ended ≡ false → Goes-on (cut self preload) (cut self count) (cut self (r .count))) ⌝ }
         ensures starts_again { λ r. ⌜ (r .ended ≡ true → Starts-again (cut self preload) (cut self count) (cut self (r .count))) ⌝ }
+        ensures ends_exactly_at_the_last_word { λ r. ⌜ (r .ended ≡ true) ↔ (words-left (cut self preload) (cut self count) ≡ 1) ⌝ }
         ensures is_the_preload_again { λ r. ⌜ (r .ended ≡ true → preload < 2 ^ 24 → r .count ≡ preload) ⌝ }
     {
         let now = self.cut(count);

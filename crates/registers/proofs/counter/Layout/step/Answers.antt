@@ -1,7 +1,7 @@
 use mathlib.Core.Path.{_≡_}
 use Rattle.registers.specs.Counter.{cut, ends-block}
 use Rattle.registers.specs.Laws.{largest, counted}
-use Rattle.registers.proofs.Counting.{stepped-fits}
+use Rattle.registers.proofs.Counting.{stepped-fits, block-ends-exactly-at-last-word}
 use Rattle.registers.proofs.Layouts.{counted-below, counted-fields, counted-within, counted-goes-on, counted-starts-again, counted-is-preload}
 use Rattle.registers.proofs.counter.Layout.step.Needs as need
 
@@ -25,5 +25,6 @@ returns c =
       stays-within = rw count-is (counted-within l p n);
       goes-on = rw (count-is, ended-is) (counted-goes-on l p n);
       starts-again = rw (count-is, ended-is) (counted-starts-again l p n);
+      ends-exactly-at-the-last-word = rw ended-is (block-ends-exactly-at-last-word (cut l p) (cut l n));
       is-the-preload-again = rw (count-is, ended-is) (counted-is-preload l p n);
     }

@@ -6,16 +6,13 @@ use Rattle.registers.proofs.Layouts.{words-left-fit}
 use Rattle.registers.proofs.counter.Layout.words_left.Needs as need
 
 pub mul-result-2 : need.mul-result-2
-mul-result-2 c =
-    omega (arith, words-left-fit (c .args .self) (c .cut-full .result) (c .cut-now .result) (c .cut-full .ensures .fits) (c .cut-now .ensures .fits))
+mul-result-2 c = omega (arith, words-left-fit (c .args .self) _ _ (c .cut-full .ensures .fits) (c .cut-now .ensures .fits))
 
 pub add-result-4 : need.add-result-4
-add-result-4 c =
-    omega (arith, words-left-fit (c .args .self) (c .cut-full .result) (c .cut-now .result) (c .cut-full .ensures .fits) (c .cut-now .ensures .fits))
+add-result-4 c = omega (arith, words-left-fit (c .args .self) _ _ (c .cut-full .ensures .fits) (c .cut-now .ensures .fits))
 
 pub add-result-5 : need.add-result-5
-add-result-5 c =
-    omega (arith, words-left-fit (c .args .self) (c .cut-full .result) (c .cut-now .result) (c .cut-full .ensures .fits) (c .cut-now .ensures .fits))
+add-result-5 c = omega (arith, words-left-fit (c .args .self) _ _ (c .cut-full .ensures .fits) (c .cut-now .ensures .fits))
 
 pub returns : need.returns
 returns c =
