@@ -1,7 +1,8 @@
 pub mod Arbitration
-pub mod Banks
 pub mod ArbitrationLaws
+pub mod Banks
 pub mod Channels
+pub mod Controllers
 pub mod Raises
 pub mod Reads
 pub mod Refusing
@@ -10,3 +11,4 @@ pub mod Sets
 pub mod Soundness
 pub mod State
 pub mod Stops
+pub mod Tokens

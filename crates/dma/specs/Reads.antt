@@ -4,7 +4,8 @@ use mathlib.Core.List.{List, [], _∷_}
 use Prim.Native.Nat.{ℕ, _+_, _*_, _^_}
 use lib.Dec.{ltb}
 use lib.ListN.{getD}
-use Rattle.std.specs.Options.{isSome, valueOr}
+use Rattle.std.specs.declared.option.Option.{Option}
+use Rattle.std.specs.declared.option.Option.the-variants.{None, Some}
 use Rattle.std.specs.declared.result.Result.{Result}
 use Rattle.std.specs.declared.result.Result.the-variants.{Ok, Err}
 use Rattle.memory.specs.declared.refusal.Refusal.{Refusal}
@@ -15,7 +16,7 @@ use Rattle.dma.specs.declared.register.Register.the-variants.{Dsr, Ddr, Dco, D
 use Rattle.dma.specs.declared.row.Row.{Row}
 use Rattle.dma.specs.Arbitration.{winner}
 use Rattle.dma.specs.Channels.{settings}
-use Rattle.dma.specs.Raises.{bit, mask}
+use Rattle.dma.specs.Raises.{mask}
 use Rattle.dma.specs.Sets.{unknown}
 use Rattle.dma.specs.State.{State, row-at}
 
@@ -32,11 +33,17 @@ contest s = record {
   last = s .last;
 }
 
+-- the channel that the next slot would serve
+unfoldable pub next-served : State → Option ℕ
+next-served s = winner (contest s)
+
 -- done bits, activity in bit 8, and the channel that the next slot would serve in bits 9 to 11
+abbrev pub status-of : ℕ → Option ℕ → ℕ
+status-of done None = done
+status-of done (Some next) = done + 2 ^ 8 + next * 2 ^ 9
+
 abbrev pub status : State → ℕ
-status s =
-    let next = winner (contest s) in
-    mask (λ r. not (r .active)) (s .rows) + bit (isSome next) 8 + valueOr next 0 * 2 ^ 9
+status s = status-of (mask (λ r. not (r .active)) (s .rows)) (next-served s)
 
 abbrev pub held : State → Register → ℕ
 held s =

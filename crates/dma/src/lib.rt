@@ -1,7 +1,9 @@
 // The six-channel DMA controller: its table of channels, and its calls.
 pub mod arbitration;
-pub mod bank;
+mod bank;
+pub mod controller;
 pub mod register;
 pub mod row;
+pub mod service;
 mod serving;
 mod setting;

@@ -1,7 +1,7 @@
 // Reading the registers.
 ghost use mathlib.Core.Path.{_≡_};
 ghost use Rattle.dma.specs.Banks.{state-of};
-ghost use Rattle.dma.specs.Reads.{contest, status, get-answer};
+ghost use Rattle.dma.specs.Reads.{contest, next-served, status-of, status, get-answer};
 ghost use Rattle.dma.specs.Sets.{unknown};
 use crate::arbitration::Contest;
 use crate::bank::Bank;
@@ -22,6 +22,15 @@ impl Register {
             Register::Dor(i) => i > 3,
             Register::Dstr => false,
         }
+    }
+}
+
+fn status_of(done: u8, next: Option<u8>) -> u32
+    ensures value { λ r. ⌜ r ≡ status-of done next ⌝ }
+{
+    match next {
+        Some(next) => u32::from(done) + 0x100 + u32::from(next) * 0x200,
+        None => u32::from(done),
     }
 }
 
@@ -68,6 +77,13 @@ impl Bank {
         }
     }
 
+    // The channel that the next slot would serve.
+    pub fn next(&self) -> Option<u8>
+        ensures value { λ r. ⌜ r ≡ next-served (state-of (now (self .entry))) ⌝ }
+    {
+        self.contest().winner()
+    }
+
     // Done bits, activity in bit 8, and in bits 9 to 11 the channel that the next slot would serve.
     fn status(&self) -> u32
         ensures value { λ r. ⌜ r ≡ status (state-of (now (self .entry))) ⌝ }
@@ -81,10 +97,7 @@ impl Bank {
             !rows[4].active,
             !rows[5].active,
         ]);
-        match self.contest().winner() {
-            Some(next) => u32::from(done) + 0x100 + u32::from(next) * 0x200,
-            None => u32::from(done),
-        }
+        status_of(done, self.next())
     }
 
     pub fn get(&self, register: Register) -> Result<u32, Refusal>
