@@ -25,12 +25,12 @@ skipped [] s = Some s
 skipped (t ∷ ts) [] = None
 skipped (t ∷ ts) (c ∷ cs) = cond (eqb t c) (skipped ts cs) None
 
--- two readings, with a text between them
-abbrev pub both-of : {A B : Type 0} → (List ℕ → Option (A × List ℕ)) → List ℕ → (List ℕ → Option (B × List ℕ)) → List ℕ → Option ((A × B) × List ℕ)
-both-of f text g s = bind (f s) (λ a. bind (skipped text (a .1)) (λ t. bind (g t) (λ b. Some ((a .0, b .0), b .1))))
+-- two readings, one after the other; `make` says what they stand for together
+abbrev pub pair-of : {A B C : Type 0} → (A → B → C) → (List ℕ → Option (A × List ℕ)) → (List ℕ → Option (B × List ℕ)) → List ℕ → Option (C × List ℕ)
+pair-of make f g s = bind (f s) (λ a. bind (g (a .1)) (λ b. Some (make (a .0) (b .0), b .1)))
 
 -- a reading, with a text after it; `make` says what it stands for
-abbrev pub closed-of : {A B : Type 0} → (A → B) → (List ℕ → Option (A × List ℕ)) → List ℕ → List ℕ → Option (B × List ℕ)
+abbrev pub closed-of : {A C : Type 0} → (A → C) → (List ℕ → Option (A × List ℕ)) → List ℕ → List ℕ → Option (C × List ℕ)
 closed-of make f text s = bind (f s) (λ a. bind (skipped text (a .1)) (λ rest. Some (make (a .0), rest)))
 
 -- a text with what follows it
@@ -63,9 +63,13 @@ abbrev pub hex-value : ℕ → List ℕ → Option ℕ
 hex-value v [] = Some v
 hex-value v (c ∷ s) = bind (hex-digit-of c) (λ d. hex-value (v * 16 + d) s)
 
--- a word or an address: six hexadecimal digits
+-- six hexadecimal digits
 abbrev pub word-of : List ℕ → Option (ℕ × List ℕ)
 word-of s = cond (ltb (length s) 6) None (bind (hex-value 0 (take 6 s)) (λ w. Some (w, drop 6 s)))
+
+-- a word at the end of its list: after a space, and before the parenthesis that closes the list
+abbrev pub last-word-of : List ℕ → Option (ℕ × List ℕ)
+last-word-of s = bind (skipped (codes " ") s) (closed-of (λ (w : ℕ). w) word-of (codes ")"))
 
 -- one more decimal digit, where the number stays below 256
 abbrev pub with-digit : ℕ → ℕ → Option ℕ

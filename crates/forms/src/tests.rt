@@ -22,7 +22,10 @@ fn place(space: Space, address: u32) -> Place {
 
 #[test]
 fn every_form_reads_back() -> Result<(), Fail> {
-    reads(b"(store (x 000010) 0000AA)", Form::Store(place(Space::X, 0x10), 0xAA))?;
+    reads(
+        b"(store (x 000010) 0000AA)",
+        Form::Store(place(Space::X, 0x10), 0xAA),
+    )?;
     reads(b"(load (y FFFFFF))", Form::Load(place(Space::Y, 0xFF_FFFF)))?;
     reads(b"(load (p 0A0B0C))", Form::Load(place(Space::P, 0x0A_0B0C)))?;
     reads(b"(set (dsr 0) 000020)", Form::Set(Register::Dsr(0), 0x20))?;
