@@ -5,8 +5,7 @@ use Prim.Native.Nat.{ℕ}
 use native.Mathlib.Omega.{arith}
 use lib.Chars.{codes}
 use Rattle.std.proofs.shelf.Ways.{tells}
-use Rattle.std.specs.declared.option.Option.{Option}
-use Rattle.std.specs.declared.option.Option.the-variants.{None, Some}
+use Rattle.std.specs.declared.option.Option.the-variants.{Some}
 use Rattle.memory.specs.declared.place.Place.{Place}
 use Rattle.memory.specs.declared.place.Space.{Space}
 use Rattle.memory.specs.declared.place.Space.the-variants.{X, Y, P}
@@ -15,7 +14,7 @@ use Rattle.forms.specs.Scanning.{skipped, pair-of, closed-of, word-of, last-wo
 use Rattle.forms.specs.Spelling.{letter, spelled-word, spelled-place, Word-fits}
 use Rattle.forms.proofs.Texts.{none-is-not-some, bound, same-found}
 use Rattle.forms.proofs.Words.{word-sound, word-complete}
-use Rattle.forms.proofs.Sequences.{Reads, Makes, skipped-then, closed-makes, pair-makes, regrouped}
+use Rattle.forms.proofs.Sequences.{Reads, skipped-then, closed-makes, pair-makes, regrouped}
 
 word-reads : Reads word-of spelled-word Word-fits
 word-reads = record { sound = word-sound; complete = word-complete }

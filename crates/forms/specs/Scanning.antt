@@ -38,6 +38,7 @@ pub record Way (A : Type 0) : Type 0 where
   pub text : List ℕ
   pub next : List ℕ → Option (A × List ℕ)
 
+-- what follows the text, if it was there; else another reading
 abbrev pub either : {B : Type 0} → Option (List ℕ) → (List ℕ → Option B) → Option B → Option B
 either None k other = other
 either (Some rest) k other = k rest
@@ -47,6 +48,7 @@ abbrev pub first-way : {A : Type 0} → List (Way A) → List ℕ → Option (A 
 first-way [] s = None
 first-way (way ∷ ways) s = either (skipped (way .text) s) (way .next) (first-way ways s)
 
+-- from low to high
 abbrev pub between : ℕ → ℕ → ℕ → Bool
 between low high c = leb low c && leb c high
 
@@ -80,11 +82,12 @@ abbrev pub more-digits-of : ℕ → List ℕ → Option (ℕ × List ℕ)
 more-digits-of v [] = None
 more-digits-of v (c ∷ s) = cond (eqb c 41) (Some (v, s)) (bind (decimal-digit-of c) (λ d. bind (with-digit v d) (λ w. more-digits-of w s)))
 
--- a number below 256 without a leading zero, and the parenthesis that closes it
+-- what follows the first digit of a number: after 0 only the parenthesis, so that no number has a leading zero
 abbrev pub number-from : ℕ → List ℕ → Option (ℕ × List ℕ)
 number-from zero s = bind (skipped (codes ")") s) (λ t. Some (0, t))
 number-from (suc v) s = more-digits-of (suc v) s
 
+-- a number below 256 without a leading zero, and the parenthesis that closes it
 abbrev pub number-of : List ℕ → Option (ℕ × List ℕ)
 number-of [] = None
 number-of (c ∷ s) = bind (decimal-digit-of c) (λ d. number-from d s)
