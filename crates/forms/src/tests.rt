@@ -12,8 +12,11 @@ fn reads(line: &[u8], form: Form) -> Result<(), Fail> {
     check_eq(read(line), Some(form))
 }
 
-fn refused(line: &[u8]) -> Result<(), Fail> {
-    check_eq(read(line), None)
+fn all_refused(lines: &[&[u8]]) -> Result<(), Fail> {
+    for line in lines {
+        check_eq(read(line), None)?;
+    }
+    Ok(())
 }
 
 fn place(space: Space, address: u32) -> Place {
@@ -50,29 +53,35 @@ fn every_register_reads_back() -> Result<(), Fail> {
 
 #[test]
 fn numbers_are_exact() -> Result<(), Fail> {
-    refused(b"(raise 00)")?;
-    refused(b"(raise 01)")?;
-    refused(b"(raise 256)")?;
-    refused(b"(raise 999)")?;
-    refused(b"(raise -1)")?;
-    refused(b"(raise )")?;
-    refused(b"(load (x 00000a))")?;
-    refused(b"(load (x 00010))")?;
-    refused(b"(load (x 0000010))")?;
-    refused(b"(get (dstr 0))")?;
-    refused(b"(get (dsr))")
+    let lines: [&[u8]; 11] = [
+        b"(raise 00)",
+        b"(raise 01)",
+        b"(raise 256)",
+        b"(raise 999)",
+        b"(raise -1)",
+        b"(raise )",
+        b"(load (x 00000a))",
+        b"(load (x 00010))",
+        b"(load (x 0000010))",
+        b"(get (dstr 0))",
+        b"(get (dsr))",
+    ];
+    all_refused(&lines)
 }
 
 #[test]
 fn nothing_is_left_over() -> Result<(), Fail> {
-    refused(b"")?;
-    refused(b"(stop) ")?;
-    refused(b"(stop)\r")?;
-    refused(b"(stop")?;
-    refused(b"\t(stop)")?;
-    refused(b"(raise 10")?;
-    refused(b"(raise  10)")?;
-    refused(b"(load (x 000010)")?;
-    refused(b"(load (z 000010))")?;
-    refused(b"(store (x 000010)  0000AA)")
+    let lines: [&[u8]; 10] = [
+        b"",
+        b"(stop) ",
+        b"(stop)\r",
+        b"(stop",
+        b"\t(stop)",
+        b"(raise 10",
+        b"(raise  10)",
+        b"(load (x 000010)",
+        b"(load (z 000010))",
+        b"(store (x 000010)  0000AA)",
+    ];
+    all_refused(&lines)
 }
