@@ -5,53 +5,66 @@ use Prim.Native.Nat.{ℕ}
 use lib.Chars.{codes}
 use Rattle.std.specs.Written.{decimal}
 use Rattle.std.specs.declared.option.Option.{Option}
-use Rattle.std.specs.declared.option.Option.the-variants.{None, Some}
+use Rattle.std.specs.declared.option.Option.the-variants.{Some}
 use Rattle.memory.specs.declared.place.Place.{Place}
 use Rattle.forms.specs.declared.form.Form.{Form}
 use Rattle.forms.specs.declared.form.Form.the-variants.{Store, Load, Set, Get, Raise, Slot, Serve, Stop, Wake}
 use Rattle.forms.specs.declared.form.Register.{Register}
-use Rattle.forms.specs.Reading.{forms, number-as, ended, form-of}
-use Rattle.forms.specs.Scanning.{bind, skipped, closed-of, Way, first-way, number-of}
-use Rattle.forms.specs.Spelling.{spelled, In-range, Number-fits, Exact}
+use Rattle.forms.specs.Reading.{store-of, load-of, set-of, get-of, number-as, forms, ended, form-of}
+use Rattle.forms.specs.Scanning.{bind, skipped, first-way, number-of}
+use Rattle.forms.specs.Spelling.{spelled-word, spelled-place, spelled-register, spelled, Word-fits, Number-fits, Register-fits, In-range, Exact}
 use Rattle.forms.proofs.Texts.{none-is-not-some, bound, same-found}
 use Rattle.forms.proofs.Numbers.{number-sound, number-complete}
-use Rattle.forms.proofs.Places.{word-reads, place-reads}
+use Rattle.forms.proofs.Places.{spelled-last, last-word-reads, place-reads}
 use Rattle.forms.proofs.Registers.{register-reads}
-use Rattle.forms.proofs.Sequences.{Reads, closed-sound, closed-complete, both-reads, Way-sound, bare-way, first-way-sound}
+use Rattle.forms.proofs.Sequences.{Makes, closed-makes, pair-makes, way-sound, bare-way, first-way-sound}
 
--- a form that is a first word, something read, and a parenthesis
-closed-way : {A : Type 0} {f : List ℕ → Option (A × List ℕ)} {p : A → List ℕ} {F : A → Type 0} (reads : Reads f p F) (make : A → Form) (front : List ℕ) → ((a : A) → F a → In-range (make a)) → ((a : A) → front ++ (p a ++ codes ")") ≡ spelled (make a)) → (s rest : List ℕ) (form : Form) → closed-of make f (codes ")") s ≡ Some (form, rest) → In-range form × (front ++ s ≡ spelled form ++ rest)
-closed-way {p = p} reads make front fits spells s rest form e =
-    let told = closed-sound reads make (codes ")") s rest form e in
-    let a = told .0 in
-    let whole : front ++ s ≡ spelled (make a) ++ rest = ap (λ t. front ++ t) (told .3) ∙ sym (append-assoc front (p a ++ codes ")") rest) ∙ ap (λ t. t ++ rest) (spells a) in
-    subst (λ (q : Form). In-range q × (front ++ s ≡ spelled q ++ rest)) (told .1) (fits a (told .2), whole)
+-- a word after a place or a register, as the form spells it
+grouped : (front before w : List ℕ) → front ++ (before ++ (codes " " ++ w ++ codes ")")) ≡ front ++ before ++ codes " " ++ w ++ codes ")"
+grouped front before w = simp append-assoc
 
--- a form that is a first word and a number
-number-way : (make : ℕ → Form) (front : List ℕ) → ((n : ℕ) → Number-fits n → In-range (make n)) → ((n : ℕ) → front ++ (decimal n ++ codes ")") ≡ spelled (make n)) → (s rest : List ℕ) (form : Form) → number-as make s ≡ Some (form, rest) → In-range form × (front ++ s ≡ spelled form ++ rest)
-number-way make front fits spells s rest form e =
-    let one = bound (number-of s) (λ n. Some (make (n .0), n .1)) (form, rest) e in
-    let n = one .0 .0 in
-    let same = same-found (make n) form (one .0 .1) rest (one .2) in
-    let told = number-sound s (one .0 .1) n (one .1) in
-    let line : s ≡ decimal n ++ codes ")" ++ rest = told .1 ∙ ap (λ t. decimal n ++ (41 ∷ t)) (same .1) ∙ sym (append-assoc (decimal n) (codes ")") rest) in
-    let whole : front ++ s ≡ spelled (make n) ++ rest = ap (λ t. front ++ t) line ∙ sym (append-assoc front (decimal n ++ codes ")") rest) ∙ ap (λ t. t ++ rest) (spells n) in
-    subst (λ (q : Form). In-range q × (front ++ s ≡ spelled q ++ rest)) (same .0) (fits n (told .0), whole)
+number-makes : (make : ℕ → Form) → Makes (number-as make) make (λ n. decimal n ++ codes ")") Number-fits
+number-makes make = record { sound = found; complete = finds }
+  where
+    found : (s rest : List ℕ) (form : Form) → number-as make s ≡ Some (form, rest) → (n : ℕ) × (make n ≡ form) × Number-fits n × (s ≡ decimal n ++ codes ")" ++ rest)
+    found s rest form e =
+        let one = bound (number-of s) (λ n. Some (make (n .0), n .1)) (form, rest) e in
+        let n = one .0 .0 in
+        let same = same-found (make n) form (one .0 .1) rest (one .2) in
+        let told = number-sound s (one .0 .1) n (one .1) in
+        (n, same .0, told .0, told .1 ∙ ap (λ t. decimal n ++ (41 ∷ t)) (same .1) ∙ sym (append-assoc (decimal n) (codes ")") rest))
+
+    finds : (n : ℕ) (rest : List ℕ) → Number-fits n → number-as make (decimal n ++ codes ")" ++ rest) ≡ Some (make n, rest)
+    finds n rest h =
+        let k : ℕ × List ℕ → Option (Form × List ℕ) = λ m. Some (make (m .0), m .1) in
+        ap (λ s. number-as make s) (append-assoc (decimal n) (codes ")") rest) ∙ ap (λ o. bind o k) (number-complete n rest h)
+
+store-makes : Makes store-of (λ (x : Place × ℕ). Store (x .0) (x .1)) (λ x. spelled-place (x .0) ++ spelled-last (x .1)) (λ x. Word-fits (x .0 .address) × Word-fits (x .1))
+store-makes = pair-makes Store place-reads last-word-reads
+
+set-makes : Makes set-of (λ (x : Register × ℕ). Set (x .0) (x .1)) (λ x. spelled-register (x .0) ++ spelled-last (x .1)) (λ x. Register-fits (x .0) × Word-fits (x .1))
+set-makes = pair-makes Set register-reads last-word-reads
+
+load-makes : Makes load-of Load (λ p. spelled-place p ++ codes ")") (λ p. Word-fits (p .address))
+load-makes = closed-makes place-reads Load (codes ")")
+
+get-makes : Makes get-of Get (λ r. spelled-register r ++ codes ")") Register-fits
+get-makes = closed-makes register-reads Get (codes ")")
 
 form-sound : (s rest : List ℕ) (form : Form) → first-way forms s ≡ Some (form, rest) → In-range form × (s ≡ spelled form ++ rest)
 form-sound =
     first-way-sound spelled In-range forms (
-      closed-way (both-reads place-reads (codes " ") word-reads) (λ x. Store (x .0) (x .1)) (codes "(store ") (λ a h. h) (λ a. refl),
+      way-sound store-makes (codes "(store ") spelled In-range (λ x h. h) (λ x. grouped (codes "(store ") (spelled-place (x .0)) (spelled-word (x .1))),
       (
-        closed-way place-reads Load (codes "(load ") (λ a h. h) (λ a. refl),
+        way-sound load-makes (codes "(load ") spelled In-range (λ p h. h) (λ p. refl),
         (
-          closed-way (both-reads register-reads (codes " ") word-reads) (λ x. Set (x .0) (x .1)) (codes "(set ") (λ a h. h) (λ a. refl),
+          way-sound set-makes (codes "(set ") spelled In-range (λ x h. h) (λ x. grouped (codes "(set ") (spelled-register (x .0)) (spelled-word (x .1))),
           (
-            closed-way register-reads Get (codes "(get ") (λ a h. h) (λ a. refl),
+            way-sound get-makes (codes "(get ") spelled In-range (λ r h. h) (λ r. refl),
             (
-              number-way Raise (codes "(raise ") (λ n h. h) (λ n. refl),
+              way-sound (number-makes Raise) (codes "(raise ") spelled In-range (λ n h. h) (λ n. refl),
               (
-                number-way Serve (codes "(serve ") (λ n h. h) (λ n. refl),
+                way-sound (number-makes Serve) (codes "(serve ") spelled In-range (λ n h. h) (λ n. refl),
                 (
                   bare-way spelled In-range Slot tt,
                   (
@@ -69,20 +82,15 @@ form-sound =
       ),
     )
 
-number-then : (make : ℕ → Form) (n : ℕ) (rest : List ℕ) → Number-fits n → number-as make (decimal n ++ codes ")" ++ rest) ≡ Some (make n, rest)
-number-then make n rest h =
-    let k : ℕ × List ℕ → Option (Form × List ℕ) = λ m. Some (make (m .0), m .1) in
-    ap (λ s. number-as make s) (append-assoc (decimal n) (codes ")") rest) ∙ ap (λ o. bind o k) (number-complete n rest h)
-
 form-complete : (form : Form) (rest : List ℕ) → In-range form → first-way forms (spelled form ++ rest) ≡ Some (form, rest)
 unfolding skipped
-form-complete (Store p w) rest h = closed-complete (both-reads place-reads (codes " ") word-reads) (λ x. Store (x .0) (x .1)) (codes ")") rest (p, w) h
-form-complete (Load p) rest h = closed-complete place-reads Load (codes ")") rest p h
-form-complete (Set r w) rest h = closed-complete (both-reads register-reads (codes " ") word-reads) (λ x. Set (x .0) (x .1)) (codes ")") rest (r, w) h
-form-complete (Get r) rest h = closed-complete register-reads Get (codes ")") rest r h
-form-complete (Raise n) rest h = number-then Raise n rest h
+form-complete (Store p w) rest h = ap (λ t. first-way forms (t ++ rest)) (sym (grouped (codes "(store ") (spelled-place p) (spelled-word w))) ∙ store-makes .complete (p, w) rest h
+form-complete (Load p) rest h = load-makes .complete p rest h
+form-complete (Set r w) rest h = ap (λ t. first-way forms (t ++ rest)) (sym (grouped (codes "(set ") (spelled-register r) (spelled-word w))) ∙ set-makes .complete (r, w) rest h
+form-complete (Get r) rest h = get-makes .complete r rest h
+form-complete (Raise n) rest h = number-makes Raise .complete n rest h
 form-complete Slot rest h = refl
-form-complete (Serve n) rest h = number-then Serve n rest h
+form-complete (Serve n) rest h = number-makes Serve .complete n rest h
 form-complete Stop rest h = refl
 form-complete Wake rest h = refl
 

@@ -1,9 +1,9 @@
 -- Numbers: read exactly where their decimal digits stand, without a leading zero.
-use mathlib.Core.Path.{_≡_, refl, sym, ap, _∙_}
+use mathlib.Core.Path.{_≡_, sym, ap, _∙_}
 use mathlib.Core.Logic.{⊎-elim}
-use mathlib.Core.Bool.{true, false, cond}
+use mathlib.Core.Bool.{false}
 use mathlib.Core.List.{List, [], _∷_, _++_, append-assoc}
-use Prim.Native.Nat.{ℕ, _+_, _-_, _*_, _/_, _%_, _^_, _<_, _≤_, zero, suc}
+use Prim.Native.Nat.{ℕ, _+_, _*_, _/_, _%_, _<_, _≤_, zero, suc}
 use native.Mathlib.Omega.{arith}
 use lib.Chars.{codes}
 use lib.Dec.{eqb, ltb}
@@ -11,8 +11,7 @@ use Rattle.std.proofs.shelf.Decimals.{decimal-digit, decimal-step, decimal-by-s
 use Rattle.std.proofs.shelf.Tests.{eqb-true, ne-eqb, ltb-true, lt-ltb}
 use Rattle.std.proofs.shelf.Ways.{tells}
 use Rattle.std.specs.Written.{decimal}
-use Rattle.std.specs.declared.option.Option.{Option}
-use Rattle.std.specs.declared.option.Option.the-variants.{None, Some}
+use Rattle.std.specs.declared.option.Option.the-variants.{Some}
 use Rattle.forms.specs.Scanning.{bind, skipped, decimal-digit-of, with-digit, more-digits-of, number-from, number-of}
 use Rattle.forms.specs.Spelling.{Number-fits}
 use Rattle.forms.proofs.Texts.{none-is-not-some, bound, guarded, either-arm, same-found, skipped-sound}

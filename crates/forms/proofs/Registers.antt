@@ -1,9 +1,9 @@
 -- Registers are read exactly.
 use mathlib.Core.Path.{_≡_, refl, sym, ap, subst, _∙_}
 use mathlib.Core.Logic.{⊎-elim}
-use mathlib.Core.Bool.{Bool, true, false, cond, _&&_}
+use mathlib.Core.Bool.{true, false}
 use mathlib.Core.List.{List, [], _∷_, _++_, append-assoc}
-use Prim.Native.Nat.{ℕ, suc, _≤_, _<_}
+use Prim.Native.Nat.{ℕ, suc, _≤_}
 use native.Mathlib.Omega.{arith}
 use lib.Chars.{codes}
 use lib.Dec.{eqb, ltb}
@@ -13,11 +13,11 @@ use Rattle.std.proofs.shelf.Equals.{ReadsAt, text-from-reads}
 use Rattle.std.proofs.shelf.Tests.{eqb-true, ltb-false, le-ltb, and-parts}
 use Rattle.std.specs.Written.{decimal}
 use Rattle.std.specs.declared.option.Option.{Option}
-use Rattle.std.specs.declared.option.Option.the-variants.{None, Some}
+use Rattle.std.specs.declared.option.Option.the-variants.{Some}
 use Rattle.forms.specs.declared.form.Register.{Register}
 use Rattle.forms.specs.declared.form.Register.the-variants.{Dsr, Ddr, Dco, Dcr, Dor, Dstr}
 use Rattle.forms.specs.Reading.{reads, Name, named, names, numbered-of, registers, register-of}
-use Rattle.forms.specs.Scanning.{bind, skipped, Way, first-way, number-of}
+use Rattle.forms.specs.Scanning.{bind, skipped, number-of}
 use Rattle.forms.specs.Spelling.{spelled-register, Register-fits, Number-fits}
 use Rattle.forms.proofs.Texts.{none-is-not-some, bound, guarded-not, either-arm, same-found}
 use Rattle.forms.proofs.Numbers.{number-sound, number-complete}
@@ -69,6 +69,13 @@ named-sound (name ∷ more) proper s n r long h e =
 grouped : (name number rest : List ℕ) → name ++ (codes " " ++ (number ++ (41 ∷ rest))) ≡ name ++ codes " " ++ number ++ codes ")" ++ rest
 grouped name number rest = simp append-assoc
 
+-- the parts that were read make up the spelling of the register
+numbered-whole : (s name gap left rest : List ℕ) (n : ℕ) (q r : Register) → name ++ gap ≡ s → gap ≡ codes " " ++ (decimal n ++ (41 ∷ left)) → spelled-register q ≡ codes "(" ++ name ++ codes " " ++ decimal n ++ codes ")" → q ≡ r → left ≡ rest → codes "(" ++ s ≡ spelled-register r ++ rest
+numbered-whole s name gap left rest n q r split follows spells same end =
+    ap (λ t. 40 ∷ t) (sym split ∙ ap (λ t. name ++ t) follows ∙ grouped name (decimal n) left)
+    ∙ ap (λ t. t ++ left) (sym spells ∙ ap spelled-register same)
+    ∙ ap (λ t. spelled-register r ++ t) end
+
 numbered-sound : (s rest : List ℕ) (r : Register) → numbered-of s ≡ Some (r, rest) → Register-fits r × (codes "(" ++ s ≡ spelled-register r ++ rest)
 numbered-sound s rest r e =
     let make : ℕ × List ℕ → Option (Register × List ℕ) = λ n. bind (named names (take 3 s) (n .0)) (λ q. Some (q, n .1)) in
@@ -82,9 +89,8 @@ numbered-sound s rest r e =
     let long : 3 ≤ length s = ltb-false (length s) 3 (three .0) in
     let read = number-sound (gap .0) left n (number .1) in
     let told = named-sound names names-proper (take 3 s) n (name .0) (length-take-le 3 s long) (read .0) (name .1) in
-    let whole : s ≡ take 3 s ++ (codes " " ++ (decimal n ++ (41 ∷ left))) = sym (take-append-drop 3 s) ∙ ap (λ t. take 3 s ++ t) (gap .1 ∙ ap (λ t. codes " " ++ t) (read .1)) in
-    let spelled : codes "(" ++ s ≡ spelled-register (name .0) ++ left = ap (λ t. 40 ∷ t) (whole ∙ grouped (take 3 s) (decimal n) left) ∙ ap (λ t. t ++ left) (sym (told .1)) in
-    (subst Register-fits (same .0) (told .0), spelled ∙ ap (λ q. spelled-register q ++ left) (same .0) ∙ ap (λ t. spelled-register r ++ t) (same .1))
+    let follows : drop 3 s ≡ codes " " ++ (decimal n ++ (41 ∷ left)) = gap .1 ∙ ap (λ t. codes " " ++ t) (read .1) in
+    (subst Register-fits (same .0) (told .0), numbered-whole s (take 3 s) (drop 3 s) left rest n (name .0) r (take-append-drop 3 s) follows (told .1) (same .0) (same .1))
 
 -- three letters, a space and a number in range are read as the letters say
 numbered-complete : (a b c n : ℕ) (rest : List ℕ) → Number-fits n → numbered-of (a ∷ b ∷ c ∷ 32 ∷ (decimal n ++ codes ")" ++ rest)) ≡ bind (named names (a ∷ b ∷ c ∷ []) n) (λ r. Some (r, rest))

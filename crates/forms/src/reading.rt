@@ -1,14 +1,14 @@
 // Reading one line of a script into a form.
 ghost use mathlib.Core.Path.{_≡_};
 ghost use Rattle.forms.specs.declared.form.Form.the-variants.{Raise, Serve};
-ghost use Rattle.forms.specs.Reading.{form-of, forms, space-of, place-of, named, names, register-of, store-of, load-of, set-of, get-of, number-as};
+ghost use Rattle.forms.specs.Reading.{form-of, forms, bare-forms, space-of, place-of, named, names, register-of, store-of, load-of, set-of, get-of, number-as};
 ghost use Rattle.forms.specs.Scanning.{seen, first-way};
 ghost use Rattle.forms.specs.Spelling.{Exact};
 use crate::form::Form;
 use crate::form::Register;
 use crate::scan::skip;
+use crate::scan::take_last_word;
 use crate::scan::take_number;
-use crate::scan::take_word;
 use memory::place::Place;
 use memory::place::Space;
 
@@ -30,8 +30,8 @@ fn take_place(s: &[u8]) -> Option<(Place, &[u8])>
     ensures value { λ r. ⌜ seen r ≡ place-of (now (s .entry)) ⌝ }
 {
     let (space, s) = take_space(skip(s, b"(")?)?;
-    let (address, s) = take_word(skip(s, b" ")?)?;
-    Some((Place { space, address }, skip(s, b")")?))
+    let (address, s) = take_last_word(s)?;
+    Some((Place { space, address }, s))
 }
 
 // The register of a name, with its number.
@@ -65,8 +65,8 @@ fn take_store(s: &[u8]) -> Option<(Form, &[u8])>
     ensures value { λ r. ⌜ seen r ≡ store-of (now (s .entry)) ⌝ }
 {
     let (place, s) = take_place(s)?;
-    let (word, s) = take_word(skip(s, b" ")?)?;
-    Some((Form::Store(place, word), skip(s, b")")?))
+    let (word, s) = take_last_word(s)?;
+    Some((Form::Store(place, word), s))
 }
 
 // What follows `(load `.
@@ -82,8 +82,8 @@ fn take_set(s: &[u8]) -> Option<(Form, &[u8])>
     ensures value { λ r. ⌜ seen r ≡ set-of (now (s .entry)) ⌝ }
 {
     let (register, s) = take_register(s)?;
-    let (word, s) = take_word(skip(s, b" ")?)?;
-    Some((Form::Set(register, word), skip(s, b")")?))
+    let (word, s) = take_last_word(s)?;
+    Some((Form::Set(register, word), s))
 }
 
 // What follows `(get `.
@@ -110,6 +110,19 @@ fn take_serve(s: &[u8]) -> Option<(Form, &[u8])>
     Some((Form::Serve(channel), s))
 }
 
+// A form that is one word.
+fn take_bare(s: &[u8]) -> Option<(Form, &[u8])>
+    ensures value { λ r. ⌜ seen r ≡ first-way bare-forms (now (s .entry)) ⌝ }
+{
+    if let Some(s) = skip(s, b"(slot)") {
+        return Some((Form::Slot, s));
+    }
+    if let Some(s) = skip(s, b"(stop)") {
+        return Some((Form::Stop, s));
+    }
+    Some((Form::Wake, skip(s, b"(wake)")?))
+}
+
 // A form by its first word.
 fn take_form(s: &[u8]) -> Option<(Form, &[u8])>
     ensures value { λ r. ⌜ seen r ≡ first-way forms (now (s .entry)) ⌝ }
@@ -132,13 +145,7 @@ fn take_form(s: &[u8]) -> Option<(Form, &[u8])>
     if let Some(s) = skip(s, b"(serve ") {
         return take_serve(s);
     }
-    if let Some(s) = skip(s, b"(slot)") {
-        return Some((Form::Slot, s));
-    }
-    if let Some(s) = skip(s, b"(stop)") {
-        return Some((Form::Stop, s));
-    }
-    Some((Form::Wake, skip(s, b"(wake)")?))
+    take_bare(s)
 }
 
 // The form that the line spells, if it spells one.

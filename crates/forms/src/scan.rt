@@ -3,7 +3,7 @@ ghost use mathlib.Core.Path.{_≡_};
 ghost use Prim.Native.Nat.{_<_};
 ghost use Rattle.std.specs.Options.{mapped};
 ghost use Rattle.std.specs.Slices.{found};
-ghost use Rattle.forms.specs.Scanning.{skipped, seen, decimal-digit-of, hex-digit-of, hex-value, word-of, with-digit, more-digits-of, number-of};
+ghost use Rattle.forms.specs.Scanning.{skipped, seen, decimal-digit-of, hex-digit-of, hex-value, last-word-of, with-digit, more-digits-of, number-of};
 
 // The rest of the line after `text`, if the line begins with it.
 pub fn skip<'a>(s: &'a [u8], text: &[u8]) -> Option<&'a [u8]>
@@ -45,12 +45,12 @@ fn hex_value(digits: &[u8; 6]) -> Option<u32>
     Some(word)
 }
 
-// A word or an address.
-pub fn take_word(s: &[u8]) -> Option<(u32, &[u8])>
-    ensures value { λ r. ⌜ seen r ≡ word-of (now (s .entry)) ⌝ }
+// A word at the end of its list: a space, six hexadecimal digits, and the parenthesis that closes the list.
+pub fn take_last_word(s: &[u8]) -> Option<(u32, &[u8])>
+    ensures value { λ r. ⌜ seen r ≡ last-word-of (now (s .entry)) ⌝ }
 {
-    let (digits, rest) = s.split_first_chunk::<6>()?;
-    Some((hex_value(digits)?, rest))
+    let (digits, rest) = skip(s, b" ")?.split_first_chunk::<6>()?;
+    Some((hex_value(digits)?, skip(rest, b")")?))
 }
 
 // One more digit at the end of `number`, where the result stays below 256.
