@@ -1,8 +1,9 @@
 -- How an answer is written in the listing.
-use mathlib.Core.Bool.{Bool, true, false, cond}
+use mathlib.Core.Bool.{Bool, cond, _&&_}
 use mathlib.Core.List.{List, [], _++_}
 use Prim.Native.Nat.{ℕ}
 use lib.Chars.{codes}
+use lib.Dec.{leb}
 use lib.Utf8.{encode}
 use Rattle.std.specs.Written.{decimal}
 use Rattle.memory.specs.declared.refusal.Fault as fault
@@ -13,14 +14,9 @@ use Rattle.forms.specs.Spelling.{spelled-place, spelled-word}
 use Rattle.script.specs.declared.answer.Answer.{Answer}
 use Rattle.script.specs.declared.answer.Answer.the-variants.{Done, Word, Fault, NoForm}
 
--- whether the place is told: it is where an absent or a fixed place refused
+-- whether the place is told: it is where an absent or a fixed place refused, which is 13 to 15
 abbrev pub tells-place : Refusal → Bool
-tells-place refusal.ValueTooLarge = false
-tells-place refusal.AbsentLoad = true
-tells-place refusal.AbsentStore = true
-tells-place refusal.FixedStore = true
-tells-place refusal.NoForm = false
-tells-place refusal.UnfitSizes = false
+tells-place cause = leb 13 (number cause) && leb (number cause) 15
 
 -- a refusal's number, and the line that it answers
 abbrev pub refused : Refusal → ℕ → List ℕ

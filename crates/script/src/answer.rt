@@ -62,7 +62,7 @@ fn tells_place(cause: Refusal) -> bool
 {
     match cause {
         Refusal::AbsentLoad | Refusal::AbsentStore | Refusal::FixedStore => true,
-        Refusal::ValueTooLarge | Refusal::NoForm | Refusal::UnfitSizes => false,
+        _ => false,
     }
 }
 
