@@ -1,5 +1,6 @@
 -- A request of a source: who takes it, who misses it, and what it makes due.
-use mathlib.Core.Bool.{Bool, cond, _&&_, _||_}
+use mathlib.Core.Path.{_≡_}
+use mathlib.Core.Bool.{Bool, false, cond, _&&_, _||_}
 use mathlib.Core.List.{List, map}
 use Prim.Native.Nat.{ℕ, _+_, _*_, _^_}
 use lib.Dec.{leb, ltb}
@@ -9,7 +10,7 @@ use Rattle.memory.specs.declared.refusal.Refusal.{Refusal}
 use Rattle.memory.specs.declared.refusal.Refusal.the-variants.{NoSuchSource}
 use Rattle.dma.specs.declared.register.Masks.{Masks}
 use Rattle.dma.specs.declared.row.Row.{Row}
-use Rattle.dma.specs.Channels.{captures, misses, made-due}
+use Rattle.dma.specs.Channels.{listens, captures, misses, made-due}
 use Rattle.dma.specs.State.{State, row-at}
 
 -- the sources 4 to 9 are the block ends, which no device raises; there are none above 31
@@ -52,3 +53,10 @@ raise-answer s source = cond (no-such-source source) (Err NoSuchSource) (Ok (mas
 
 abbrev pub after-raise : State → ℕ → State
 after-raise s source = cond (no-such-source source) s (raised source s)
+
+-- no channel listens to the source: then two empty masks are answered
+abbrev pub Nobody-listens : ℕ → State → Type 0
+Nobody-listens source s = (c : ℕ) → listens source (row-at (s .rows) c) ≡ false
+
+abbrev pub no-masks : Masks
+no-masks = record { captured = 0; missed = 0 }

@@ -1,8 +1,9 @@
 // The calls of the controller but for its slot.
+ghost use mathlib.Core.Bool.{false};
 ghost use mathlib.Core.Path.{_≡_};
-ghost use Rattle.dma.specs.Banks.{state-of};
+ghost use Rattle.std.specs.declared.result.Result.the-variants.{Ok};
 ghost use Rattle.dma.specs.Controllers.{state, stopped-state};
-ghost use Rattle.dma.specs.Raises.{raise-answer, after-raise};
+ghost use Rattle.dma.specs.Raises.{no-such-source, raise-answer, after-raise, Nobody-listens, no-masks};
 ghost use Rattle.dma.specs.Reads.{get-answer};
 ghost use Rattle.dma.specs.Services.{after-begin, after-return};
 ghost use Rattle.dma.specs.Sets.{set-answer, after-set};
@@ -45,6 +46,7 @@ impl Controller {
     pub fn raise(&mut self, source: u8) -> Result<Masks, Refusal>
         ensures value { λ r. ⌜ r ≡ raise-answer (state (now (self .entry))) source ⌝ }
         ensures after { λ _. ⌜ state (now (self .exit)) ≡ after-raise (state (now (self .entry))) source ⌝ }
+        ensures no_listener_changes_nothing { λ r. ⌜ (no-such-source source ≡ false → Nobody-listens source (state (now (self .entry))) → (r ≡ Ok no-masks) × (state (now (self .exit)) ≡ state (now (self .entry)))) ⌝ }
     {
         self.bank.raise(source)
     }
