@@ -8,7 +8,9 @@ pub mod Reads
 pub mod Refusing
 pub mod Services
 pub mod Sets
+pub mod Slots
 pub mod Soundness
 pub mod State
 pub mod Stops
 pub mod Tokens
+pub mod WorkedCases
