@@ -1,5 +1,4 @@
 use native.Mathlib.Omega.{arith}
-use Rattle.registers.proofs.Counting.{some-word-in-block}
 use Rattle.registers.proofs.Layouts.{block-fits}
 use Rattle.registers.proofs.counter.Layout.block_length.Needs as need
 
@@ -9,6 +8,6 @@ mul-result-2 c = omega (arith, block-fits (c .args .self) _ (c .cut-full .ensure
 pub returns : need.returns
 returns c = record {
   value = cc;
-  some-word = some-word-in-block (c .cut-full .result);
-  at-most-all-addresses = block-fits (c .args .self) _ (c .cut-full .ensures .fits);
+  some-word = omega arith;
+  at-most-all-addresses = omega (arith, block-fits (c .args .self) _ (c .cut-full .ensures .fits));
 }
