@@ -32,7 +32,7 @@ impl Bank {
         self.begin_row(c)
     }
 
-    pub fn finish(&mut self, c: u8) -> Result<(), Refusal>
+    pub(crate) fn finish(&mut self, c: u8) -> Result<(), Refusal>
         requires { ⌜ c < 6 ⌝ }
         ensures value { λ r. ⌜ r ≡ answer (return-refusal (state-of (now (self .entry))) c) ⌝ }
         ensures after { λ _. ⌜ state-of (now (self .exit)) ≡ after-return (state-of (now (self .entry))) c ⌝ }
