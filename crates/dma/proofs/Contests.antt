@@ -1,14 +1,13 @@
 -- Who competes at a priority, and whom the search upward finds.
-use mathlib.Core.Path.{_≡_, refl, sym, ap, subst, _∙_}
-use mathlib.Core.Bool.{Bool, true, false, cond, _&&_, _||_}
-use mathlib.Core.Logic.{_⊎_, inl, inr}
+use mathlib.Core.Path.{_≡_, sym, ap, _∙_}
+use mathlib.Core.Bool.{Bool, true, false, _||_}
+use mathlib.Core.Logic.{inl, inr}
 use Prim.Native.Nat.{ℕ, zero, suc, _+_, _-_, _%_, _<_, _≤_}
 use native.Mathlib.Omega.{arith}
-use Rattle.std.proofs.shelf.Tests.{or-from, cond-true, cond-false}
-use Rattle.std.specs.declared.option.Option.{Option}
+use Rattle.std.proofs.shelf.Tests.{or-from, cond-true, cond-false, cases-lt}
 use Rattle.std.specs.declared.option.Option.the-variants.{None, Some}
 use Rattle.dma.specs.declared.arbitration.Contest.{Contest}
-use Rattle.dma.specs.Arbitration.{competes, any-competes, upward, served-at}
+use Rattle.dma.specs.Arbitration.{competes, any-competes, upward}
 
 -- what holds of each of the six channels
 pub each-channel : (P : ℕ → Type 0) → P 0 → P 1 → P 2 → P 3 → P 4 → P 5 → (c : ℕ) → c < 6 → P c
@@ -52,16 +51,10 @@ module _ (k : Contest) (priority : ℕ) where
   pub upward-out : (i c : ℕ) → 6 ≤ i → upward k priority (6 - i) c ≡ None
   upward-out i c h = let none-left : 6 - i ≡ 0 = omega arith in ap (λ n. upward k priority n c) none-left
 
-module _ (k : Contest) where
-  -- what the priorities from this one downward serve
-  abbrev pub falls : ℕ → Option ℕ
-  falls zero = served-at k zero
-  falls (suc priority) = cond (any-competes k (suc priority)) (served-at k (suc priority)) (falls priority)
-
-  pub falls-here : (priority : ℕ) → any-competes k priority ≡ true → falls priority ≡ served-at k priority
-  falls-here zero some = refl
-  falls-here (suc priority) some = cond-true _ _ _ some
-
-  pub falls-on : (priority : ℕ) → any-competes k priority ≡ false → falls priority ≡ falls (priority - 1)
-  falls-on zero idle = refl
-  falls-on (suc priority) idle = let lower : priority ≡ suc priority - 1 = omega arith in cond-false _ _ _ idle ∙ ap falls lower
+-- a priority more is idle, going down
+pub idle-down : (k : Contest) (priority : ℕ) → ((q : ℕ) → priority ≤ q → q < 4 → any-competes k q ≡ false) → false ≡ any-competes k (priority - 1) → (q : ℕ) → priority - 1 ≤ q → q < 4 → any-competes k q ≡ false
+idle-down k priority above idle q h lt =
+    elim (cases-lt q priority) [
+      | inl under ↦ let here : q ≡ priority - 1 = omega arith in ap (any-competes k) here ∙ sym idle
+      | inr over ↦ above q over lt
+    ]

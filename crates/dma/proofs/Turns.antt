@@ -1,19 +1,17 @@
 -- The channel that arbitration picks is the one that its laws ask for.
 use mathlib.Core.Path.{_≡_, refl, sym, ap, subst, _∙_}
 use mathlib.Core.Bool.{Bool, true, false, cond, _&&_}
-use mathlib.Core.Logic.{_⊎_, inl, inr, ⊎-elim}
-use Prim.Native.Nat.{ℕ, zero, suc, _+_, _-_, _%_, _<_, _≤_}
+use mathlib.Core.Logic.{_⊎_, inl, inr}
+use Prim.Native.Nat.{ℕ, zero, suc, _+_, _%_, _<_, _≤_}
 use native.Mathlib.Omega.{arith}
-use lib.Dec.{eqb}
 use lib.ListN.{getD}
 use Rattle.std.proofs.shelf.Tests.{and-parts, and-from, eqb-true, eq-eqb, both-ways, cases-lt, cases-bool, cond-true, cond-false}
-use Rattle.std.specs.Options.{isSome}
 use Rattle.std.specs.declared.option.Option.{Option}
 use Rattle.std.specs.declared.option.Option.the-variants.{None, Some}
 use Rattle.dma.specs.declared.arbitration.Contest.{Contest}
 use Rattle.dma.specs.Arbitration.{competes, any-competes, upward, served-at, winner}
-use Rattle.dma.specs.ArbitrationLaws.{Waits, priority-of, remembered, distance, GoesOn, WellMade, Wins, Arbitrates}
-use Rattle.dma.proofs.Contests.{one-competes, none-competes, falls}
+use Rattle.dma.specs.ArbitrationLaws.{Waits, priority-of, remembered, distance, GoesOn, Highest, WellMade, Wins, Arbitrates}
+use Rattle.dma.proofs.Contests.{one-competes, none-competes}
 
 -- the channel at a distance from the one after the remembered
 at-its-distance : (last c : ℕ) → last < 6 → c < 6 → ((last + 1) % 6 + distance last c) % 6 ≡ c
@@ -104,59 +102,63 @@ module _ (k : Contest) where
   idle-priority priority c idle h =
       elim (cases-bool (competes k priority c)) [ inl is ↦ absurd (both-ways _ idle (one-competes k priority c h is)) | inr is-not ↦ is-not ]
 
-  abbrev Idle-above : ℕ → Type 0
-  Idle-above priority = (q c : ℕ) → priority < q → q < 4 → c < 6 → competes k q c ≡ false
+  -- what the priorities from this one downward serve
+  abbrev falls : ℕ → Option ℕ
+  falls zero = served-at k zero
+  falls (suc priority) = cond (any-competes k (suc priority)) (served-at k (suc priority)) (falls priority)
 
-  -- the highest priority at which a channel competes, or 0
-  record Highest (priority : ℕ) : Type 0 where
-    below-4 : priority < 4
-    is-served : winner k ≡ served-at k priority
-    idle-above : Idle-above priority
-    else-lowest : any-competes k priority ≡ false → priority ≡ 0
+  falls-to-the-highest : (top : ℕ) → Highest k top → (priority : ℕ) → priority < 4 → top ≤ priority → falls priority ≡ served-at k top
+  falls-to-the-highest top high zero h under = let here : 0 ≡ top = omega arith in ap (served-at k) here
+  falls-to-the-highest top high (suc priority) h under = go (cases-lt top (suc priority)) (falls-to-the-highest top high priority (omega arith))
+    where
+      go : (top < suc priority) ⊎ (suc priority ≤ top) → (top ≤ priority → falls priority ≡ served-at k top) → falls (suc priority) ≡ served-at k top
+      go (inl over) lower = cond-false _ _ _ (high .idle-above (suc priority) over h) ∙ lower (omega arith)
+      go (inr at) lower =
+          let here : top ≡ suc priority = omega arith in
+          let some : any-competes k (suc priority) ≡ true = ap (any-competes k) (sym here) ∙ high .else-lowest (omega arith) in
+          cond-true _ _ _ some ∙ ap (served-at k) (sym here)
+
+  pub highest-serves-the-winner : (top : ℕ) → Highest k top → winner k ≡ served-at k top
+  highest-serves-the-winner top high = let h = high .a-priority in falls-to-the-highest top high 3 (omega arith) (omega arith)
+
+  abbrev Idle-above : ℕ → Type 0
+  Idle-above priority = (q : ℕ) → priority < q → q < 4 → any-competes k q ≡ false
 
   one-more-idle : (priority : ℕ) → any-competes k (suc priority) ≡ false → Idle-above (suc priority) → Idle-above priority
-  one-more-idle priority idle above q c lt h small =
+  one-more-idle priority idle above q lt h =
       elim (cases-lt (suc priority) q) [
-        | inl over ↦ above q c over h small
-        | inr under ↦ let here : suc priority ≡ q = omega arith in subst (λ (p : ℕ). competes k p c ≡ false) here (idle-priority (suc priority) c idle small)
+        | inl over ↦ above q over h
+        | inr under ↦ let here : q ≡ suc priority = omega arith in ap (any-competes k) here ∙ idle
       ]
 
-  highest-from : (priority : ℕ) → priority < 4 → winner k ≡ falls k priority → Idle-above priority → (top : ℕ) × Highest top
-  highest-from zero h is above = (0, record { below-4 = h; is-served = is; idle-above = above; else-lowest = λ _. refl })
-  highest-from (suc priority) h is above = go (any-competes k (suc priority)) refl (highest-from priority (omega arith))
+  highest-from : (priority : ℕ) → priority < 4 → Idle-above priority → (top : ℕ) × Highest k top
+  highest-from zero h above = (0, record { a-priority = h; idle-above = above; else-lowest = λ lt. absurd (omega arith) })
+  highest-from (suc priority) h above = go (any-competes k (suc priority)) refl (highest-from priority (omega arith))
     where
-      go : (b : Bool) → any-competes k (suc priority) ≡ b → (winner k ≡ falls k priority → Idle-above priority → (top : ℕ) × Highest top) → (top : ℕ) × Highest top
-      go true some lower = (
-        suc priority,
-        record {
-          below-4 = h;
-          is-served = is ∙ cond-true _ _ _ some;
-          idle-above = above;
-          else-lowest = λ idle. absurd (both-ways _ idle some);
-        },
-      )
-      go false idle lower = lower (is ∙ cond-false _ _ _ idle) (one-more-idle priority idle above)
+      go : (b : Bool) → any-competes k (suc priority) ≡ b → (Idle-above priority → (top : ℕ) × Highest k top) → (top : ℕ) × Highest k top
+      go true some lower = (suc priority, record { a-priority = h; idle-above = above; else-lowest = λ _. some })
+      go false idle lower = lower (one-more-idle priority idle above)
 
-  highest : (top : ℕ) × Highest top
-  highest = highest-from 3 (omega arith) refl (λ q c lt h small. absurd (omega arith))
+  highest : (top : ℕ) × Highest k top
+  highest = highest-from 3 (omega arith) (λ q lt h. absurd (omega arith))
 
   waiting-competes : (c : ℕ) → Waits k c → competes k (priority-of k c) c ≡ true
   waiting-competes c waits = and-from _ _ (waits .words-due) (eq-eqb _ _ refl)
 
 module _ (k : Contest) (well : WellMade k) (top : ℕ) (is : Highest k top) where
   small : remembered k top < 6
-  small = well .six-channels top (is .below-4)
+  small = well .six-channels top (is .a-priority)
 
   waiting-is-not-above : (c : ℕ) → Waits k c → priority-of k c ≤ top
   waiting-is-not-above c waits =
       elim (cases-lt top (priority-of k c)) [
-        | inl over ↦ absurd (both-ways _ (is .idle-above _ c over (well .four-priorities c (waits .a-channel)) (waits .a-channel)) (waiting-competes k c waits))
+        | inl over ↦ absurd (both-ways _ (idle-priority k _ c (is .idle-above _ over (well .four-priorities c (waits .a-channel))) (waits .a-channel)) (waiting-competes k c waits))
         | inr under ↦ under
       ]
 
   nobody-waits : ((c : ℕ) → c < 6 → competes k top c ≡ false) → (c : ℕ) → Waits k c → ⊥
   nobody-waits none c waits =
-      let lowest : top ≡ 0 = is .else-lowest (none-competes k top none) in
+      let lowest : top ≤ 0 = elim (cases-lt 0 top) [ inl over ↦ absurd (both-ways _ (none-competes k top none) (is .else-lowest over)) | inr under ↦ under ] in
       let not-above = waiting-is-not-above c waits in
       let here : priority-of k c ≡ top = omega arith in
       both-ways _ (none c (waits .a-channel)) (subst (λ (p : ℕ). competes k p c ≡ true) here (waiting-competes k c waits))
@@ -203,4 +205,4 @@ winner-arbitrates k r is well =
     let high = highest k .1 in
     let low = small k well top high in
     let served = turn k top (remembered k top) low (goes-on k top (remembered k top) low) refl in
-    served-arbitrates k well top high r (subst (Served k top (remembered k top) low) (sym (is ∙ high .is-served)) served)
+    served-arbitrates k well top high r (subst (Served k top (remembered k top) low) (sym (is ∙ highest-serves-the-winner k top high)) served)

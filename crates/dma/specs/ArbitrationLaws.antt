@@ -7,6 +7,7 @@ use Rattle.std.specs.Options.{isSome}
 use Rattle.std.specs.declared.option.Option.{Option}
 use Rattle.std.specs.declared.option.Option.the-variants.{None, Some}
 use Rattle.dma.specs.declared.arbitration.Contest.{Contest}
+use Rattle.dma.specs.Arbitration.{any-competes}
 
 -- a channel of the six has words due
 pub record Waits (k : Contest) (c : ℕ) : Type 0 where
@@ -29,6 +30,12 @@ pub record GoesOn (k : Contest) (priority : ℕ) : Type 0 where
   pub waits : Waits k (remembered k priority)
   pub of-this-priority : priority-of k (remembered k priority) ≡ priority
   pub is-continuous : getD (k .continuous) (remembered k priority) false ≡ true
+
+-- the highest priority at which a channel competes, or 0 if there is none
+pub record Highest (k : Contest) (priority : ℕ) : Type 0 where
+  pub a-priority : priority < 4
+  pub idle-above : (q : ℕ) → priority < q → q < 4 → any-competes k q ≡ false
+  pub else-lowest : 0 < priority → any-competes k priority ≡ true
 
 -- what the table of a controller gives: priorities 0 to 3, each remembering one of the six channels
 pub record WellMade (k : Contest) : Type 0 where

@@ -3,7 +3,7 @@ ghost use mathlib.Core.Path.{_≡_};
 ghost use mathlib.Core.Bool.{true};
 ghost use Prim.Native.Nat.{_+_, _%_, _<_};
 ghost use Rattle.dma.specs.Arbitration.{competes, any-competes, upward, served-at, winner};
-ghost use Rattle.dma.specs.ArbitrationLaws.{WellMade, Arbitrates};
+ghost use Rattle.dma.specs.ArbitrationLaws.{Highest, WellMade, Arbitrates};
 
 const CHANNELS: u8 = 6;
 
@@ -27,10 +27,9 @@ impl Contest {
         self.served_at(self.highest())
     }
 
-    // The highest priority at which a channel competes, or 0: the one that picks the winner.
+    // The highest priority at which a channel competes, or 0 if there is none.
     fn highest(&self) -> u8
-        ensures picks { λ r. ⌜ winner (now (self .entry)) ≡ served-at (now (self .entry)) r ⌝ }
-        ensures a_priority { λ r. ⌜ r < 4 ⌝ }
+        ensures highest { λ r. ⌜ Highest (now (self .entry)) r ⌝ }
     {
         for priority in (1..PRIORITIES).rev() {
             if self.any_competes(priority) {

@@ -1,9 +1,9 @@
 use mathlib.Core.Path.{_≡_}
-use Prim.Native.Nat.{_-_}
-use Rattle.dma.specs.Arbitration.{winner}
-use Rattle.dma.proofs.Contests.{falls}
+use mathlib.Core.Bool.{false}
+use Prim.Native.Nat.{ℕ, _<_, _≤_}
+use Rattle.dma.specs.Arbitration.{any-competes}
 use Rattle.dma.proofs.arbitration.Contest.highest.Given as given
 
--- the priorities so far are idle, so those below serve the winner
+-- the priorities so far are idle
 abbrev pub Inv-loop-priority : given.InvT-loop-priority
-Inv-loop-priority l = winner (l .self) ≡ falls (l .self) (l .priority - 1)
+Inv-loop-priority l = (q : ℕ) → l .priority ≤ q → q < 4 → any-competes (l .self) q ≡ false
