@@ -1,0 +1,4 @@
+pub mod Answers
+pub mod Open
+pub mod Returns
+pub mod Rules
