@@ -2,3 +2,4 @@ pub mod Answers
 pub mod Open
 pub mod Returns
 pub mod Rules
+pub mod Devices

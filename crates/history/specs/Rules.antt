@@ -76,12 +76,13 @@ wakes Wake = true
 wakes (Load place) = false
 wakes (Store place w) = false
 
+abbrev pub after-stopped : State → Meaning → Call → Machine
+after-stopped s m call = record { state = s; awake = wakes call; memory = m }
+
 -- what a call is answered
 abbrev pub answered : Machine → Call → Answer
 answered machine call = cond (machine .awake) (awake-answer (machine .state) (machine .memory) call) (stopped-answer call)
 
 -- what a call leaves
 abbrev pub after : Machine → Call → Machine
-after machine call =
-    cond (machine .awake) (after-awake (machine .state) (machine .memory) call)
-    (record { state = machine .state; awake = wakes call; memory = machine .memory })
+after machine call = cond (machine .awake) (after-awake (machine .state) (machine .memory) call) (after-stopped (machine .state) (machine .memory) call)
