@@ -1,15 +1,16 @@
 // A controller with the tokens of its open services, awake and asleep.
-ghost use mathlib.Core.Bool.{true};
+ghost use mathlib.Core.Bool.{true, false};
 ghost use mathlib.Core.Path.{_≡_};
 ghost use Prim.Native.Nat.{ℕ, _<_};
-ghost use lib.ListN.{length};
+ghost use lib.ListN.{length, getD};
+ghost use Rattle.std.specs.declared.option.Option.the-variants.{None};
 ghost use Rattle.dma.specs.Controllers.{state, stopped-state};
 ghost use Rattle.dma.specs.Raises.{raise-answer, after-raise};
 ghost use Rattle.dma.specs.Reads.{get-answer};
 ghost use Rattle.dma.specs.Refusing.{answer};
 ghost use Rattle.dma.specs.Services.{begin-refusal, after-begin, return-refusal, after-return};
 ghost use Rattle.dma.specs.Sets.{set-answer, after-set};
-ghost use Rattle.dma.specs.State.{reset};
+ghost use Rattle.dma.specs.State.{reset, row-at};
 ghost use Rattle.dma.specs.Stops.{lost, after-stop};
 ghost use Rattle.history.specs.Open.{tied};
 ghost use Rattle.history.specs.Returns.{finish-refusal, after-finish};
@@ -138,6 +139,18 @@ impl Awake {
                 Err(_back) => unreachable(),
             },
         }
+    }
+
+    // The tokens of a device with no open service.
+    pub(crate) fn into_services(self) -> [Option<Service>; 6]
+        requires { ⌜ ((k : ℕ) → row-at (state (self .controller) .rows) k .serving ≡ false) ⌝ }
+        ensures absent { λ r. ⌜ ((k : ℕ) → getD r k None ≡ None) ⌝ }
+    {
+        let Awake {
+            controller: _,
+            services,
+        } = self;
+        services
     }
 
     // The number says how many due words are lost; services stay open.

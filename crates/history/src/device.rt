@@ -28,6 +28,7 @@ impl Device {
     pub fn execute<M: Memory>(self, memory: &mut M, call: Call) -> (Device, Answer)
         ensures value { λ r. ⌜ r .1 ≡ answered (machine self (M·Memory .meaning (now (memory .entry)))) call ⌝ }
         ensures after { λ r. ⌜ machine (r .0) (M·Memory .meaning (now (memory .exit))) ≡ after (machine self (M·Memory .meaning (now (memory .entry)))) call ⌝ }
+        ensures memory { λ _. ⌜ M·Memory .meaning (now (memory .exit)) ≡ after (machine self (M·Memory .meaning (now (memory .entry)))) call .memory ⌝ }
     {
         match self {
             Device::Awake(device) => device.execute(memory, call),

@@ -2,3 +2,4 @@
 pub mod awake;
 pub mod call;
 pub mod device;
+mod ending;
