@@ -3,3 +3,5 @@ pub mod awake;
 pub mod call;
 pub mod device;
 mod ending;
+#[cfg(test)]
+mod tests;
