@@ -1,0 +1,5 @@
+pub mod Answers
+pub mod Open
+pub mod Returns
+pub mod Rules
+pub mod Devices
