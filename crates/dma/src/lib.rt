@@ -1,4 +1,6 @@
 // The six-channel DMA controller: its table of channels, and its calls.
+#![tactic(auto)]
+
 pub mod arbitration;
 mod bank;
 pub mod cases;

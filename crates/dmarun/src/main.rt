@@ -1,4 +1,6 @@
 // dmarun reads a script from standard input, carries it out over the console's memory, and writes the listing.
+#![tactic(auto)]
+
 use script::listing::listing;
 use std::io;
 use std::io::{Read, Write};

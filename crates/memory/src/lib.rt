@@ -1,4 +1,6 @@
 // Memories of 24-bit words in the spaces X, Y and P: the interface `Memory`, and the memories that meet it.
+#![tactic(auto)]
+
 pub mod border;
 pub mod flat;
 pub mod interface;

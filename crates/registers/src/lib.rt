@@ -1,4 +1,6 @@
 // The registers of a channel as numbers: the control word taken apart, and how counter and addresses go on after a word.
+#![tactic(auto)]
+
 pub mod control;
 pub mod counter;
 #[cfg(test)]

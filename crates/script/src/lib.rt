@@ -1,4 +1,6 @@
 // A whole script: its lines, the answer to each from a memory, and the listing that they make.
+#![tactic(auto)]
+
 pub mod answer;
 pub mod hexadecimal;
 pub mod lines;
