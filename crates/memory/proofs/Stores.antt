@@ -2,7 +2,7 @@
 use Rattle.std.proofs.Common.{◌≡◌, ℕ, ◌<◌, true, Ok, Err, Result, ap, ◌∙◌, arith}
 use Rattle.std.proofs.lemmas.Bool.Decides.{nat_tests}
 use Rattle.memory.specs.declared.place.Kind.{Kind}
-use Rattle.memory.specs.declared.place.Kind.TheVariants.{Absent, Fixed, Plain}
+use Rattle.memory.specs.declared.place.Kind.TheVariants.{Plain}
 use Rattle.memory.specs.declared.place.Place.{Place}
 use Rattle.memory.specs.declared.refusal.Fault.{Fault}
 use Rattle.memory.specs.declared.refusal.Refusal.{Refusal}

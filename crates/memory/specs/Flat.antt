@@ -1,5 +1,5 @@
 -- What a flat memory means: X words, then Y words, then P words in one list.
-use Rattle.std.specs.Prelude.{ℕ, ◌+◌, ◌%◌, Bool, true, false, cond, not, ◌||◌, List, length, Some, None, Ok, Err, vec_items, Option, Result, ◌==◌, nat_lt, slice_index}
+use Rattle.std.specs.Prelude.{ℕ, ◌+◌, ◌%◌, Bool, cond, not, ◌||◌, List, length, Ok, Err, vec_items, Result, ◌==◌, nat_lt, slice_index}
 use Rattle.memory.specs.declared.flat.Flat.{Flat}
 use Rattle.memory.specs.declared.flat.FlatSizes.{FlatSizes}
 use Rattle.memory.specs.declared.place.Kind.{Kind}
