@@ -3,14 +3,14 @@ use Rattle.forms.specs.Reading.{form_of}
 use Rattle.forms.proofs.Forms.{exact_reading}
 use Rattle.forms.proofs.reading.read.Goals as goal
 
-pub returns-in-err-form : goal.returns-in-err-form
+pub returns-in_err-form : goal.returns-in_err-form
 unfolding form_of
-returns-in-err-form c = search (rules, exact_reading)
+returns-in_err-form c = search (rules, exact_reading)
 
-pub returns-then-is-empty : goal.returns-then-is-empty
+pub returns-then-is_empty : goal.returns-then-is_empty
 unfolding form_of
-returns-then-is-empty c = search (rules, exact_reading)
+returns-then-is_empty c = search (rules, exact_reading)
 
-pub returns-else-is-empty : goal.returns-else-is-empty
+pub returns-else-is_empty : goal.returns-else-is_empty
 unfolding form_of
-returns-else-is-empty c = search (rules, exact_reading)
+returns-else-is_empty c = search (rules, exact_reading)

@@ -6,5 +6,5 @@ nothing_closes : (v : ℕ) (s : List ℕ) → length s ≡ 0 → None ≡ more_d
 nothing_closes v [] e = refl
 nothing_closes v (c ∷ s) e = absurd (omega arith)
 
-pub returns-in-err-first : goal.returns-in-err-first
-returns-in-err-first c = search (rules, nothing_closes)
+pub returns-in_err-first : goal.returns-in_err-first
+returns-in_err-first c = search (rules, nothing_closes)

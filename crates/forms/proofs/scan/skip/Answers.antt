@@ -4,4 +4,4 @@ use Rattle.forms.proofs.scan.skip.Goals as goal
 use Rattle.std.proofs.lemmas.Bool.Decides.{Decides-eqb}
 
 pub returns : goal.returns
-returns c = record { value = skipped_from_cases _ _ _ (strip_prefix_is Decides-eqb _ _ _ c.strip-prefix.ensures.cases) }
+returns c = record { value = skipped_from_cases _ _ _ (strip_prefix_is Decides-eqb _ _ _ c.strip_prefix.ensures.cases) }

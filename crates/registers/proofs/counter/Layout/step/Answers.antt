@@ -21,10 +21,10 @@ returns c =
     record {
       value = cc;
       below = rw count-is (counted_below l p n);
-      fields-are-stepped = rw count-is (counted_fields l p n);
+      fields_are_stepped = rw count-is (counted_fields l p n);
       stays_within = rw count-is (counted_within l p n);
       goes_on = rw (count-is, ended_is) (counted_goes_on l p n);
-      starts-again = rw (count-is, ended_is) (counted_starts_again l p n);
-      ends-exactly-at-the-last-word = rw ended_is (block_ends_exactly_at_last_word (cut l p) (cut l n));
-      is-the-preload-again = rw (count-is, ended_is) (counted_is_preload l p n);
+      starts_again = rw (count-is, ended_is) (counted_starts_again l p n);
+      ends_exactly_at_the_last_word = rw ended_is (block_ends_exactly_at_last_word (cut l p) (cut l n));
+      is_the_preload_again = rw (count-is, ended_is) (counted_is_preload l p n);
     }
