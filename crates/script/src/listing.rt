@@ -28,8 +28,8 @@ pub fn request(line: &[u8]) -> Option<Form>
 
 // Carries out one form.
 fn serve<M: Memory>(memory: &mut M, form: Form) -> Answer
-    ensures value { result ≡ form_answer (meaning memory.old) form }
-    ensures after { meaning memory.new ≡ after_form (meaning memory.old) form }
+    ensures value { result ≡ form_answer (M.meaning memory.old) form }
+    ensures after { M.meaning memory.new ≡ after_form (M.meaning memory.old) form }
     ensures words_fit { AnswerFits result }
 {
     match form {
@@ -53,8 +53,8 @@ fn serve<M: Memory>(memory: &mut M, form: Form) -> Answer
 
 // Answers one line by what it asks for.
 pub fn answer<M: Memory>(memory: &mut M, form: Option<Form>) -> Answer
-    ensures value { result ≡ answer_of (meaning memory.old) form }
-    ensures after { meaning memory.new ≡ after_request (meaning memory.old) form }
+    ensures value { result ≡ answer_of (M.meaning memory.old) form }
+    ensures after { M.meaning memory.new ≡ after_request (M.meaning memory.old) form }
     ensures words_fit { AnswerFits result }
 {
     match form {
@@ -88,8 +88,8 @@ pub fn answer_all<M: Memory>(
     memory: &mut M,
     forms: &[Option<Form>],
 ) -> Result<Vec<Answer>, AllocError>
-    ensures value { IfOk result (λ v. v.items ≡ answers_of (meaning memory.old) forms.now) }
-    ensures after { MatchResult result (λ _. meaning memory.new ≡ after_all (meaning memory.old) forms.now) (λ _. meaning memory.new ≡ meaning memory.old) }
+    ensures value { IfOk result (λ v. v.items ≡ answers_of (M.meaning memory.old) forms.now) }
+    ensures after { MatchResult result (λ _. M.meaning memory.new ≡ after_all (M.meaning memory.old) forms.now) (λ _. M.meaning memory.new ≡ M.meaning memory.old) }
 {
     let mut answers = Vec::with_capacity(heap, forms.len())?;
     for form in forms {
@@ -119,8 +119,8 @@ pub fn written(heap: Global, answers: &[Answer]) -> Result<String, AllocError>
 // The listing of the script `input` over the memory, which is left as the script leaves it.
 // Where memory for the listing is wanting, either no line was carried out or all were.
 pub fn listing<M: Memory>(heap: Global, memory: &mut M, input: &[u8]) -> Result<String, AllocError>
-    ensures value { IfOk result (λ s. string_bytes s ≡ listing_of (meaning memory.old) input.now) }
-    ensures after { MatchResult result (λ _. meaning memory.new ≡ memory_after (meaning memory.old) input.now) (λ _. (meaning memory.new ≡ meaning memory.old) ⊎ (meaning memory.new ≡ memory_after (meaning memory.old) input.now)) }
+    ensures value { IfOk result (λ s. string_bytes s ≡ listing_of (M.meaning memory.old) input.now) }
+    ensures after { MatchResult result (λ _. M.meaning memory.new ≡ memory_after (M.meaning memory.old) input.now) (λ _. (M.meaning memory.new ≡ M.meaning memory.old) ⊎ (M.meaning memory.new ≡ memory_after (M.meaning memory.old) input.now)) }
     ensures cut { Cut input.now (lines input.now) }
 {
     let forms = requests(heap, input)?;

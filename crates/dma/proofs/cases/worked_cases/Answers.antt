@@ -5,5 +5,5 @@ use Rattle.dma.proofs.cases.worked_cases.Goals as goal
 pub returns : goal.returns
 unfolding next_served
 returns c = record {
-  every-case-holds = ((refl, refl), ((refl, refl), ((refl, refl), (refl, (refl, (refl, (refl, (refl, (refl, (refl, (refl, (refl, tt))))))))))));
+  every_case_holds = ((refl, refl), ((refl, refl), ((refl, refl), (refl, (refl, (refl, (refl, (refl, (refl, (refl, (refl, (refl, tt))))))))))));
 }

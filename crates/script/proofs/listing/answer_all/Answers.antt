@@ -9,7 +9,7 @@ loop-form-preserved g c =
     let within = c.loop-form-test.true in (
       omega arith,
       omega arith,
-      answers_more _ _ _ _ _ within told.after _ _ _ told.value c.push-reserved.ensures.items before.2,
+      answers_more _ _ _ _ _ within told.after _ _ _ told.value c.push_reserved.ensures.items before.2,
       after_more _ _ _ _ _ within told.after before.3,
     )
 

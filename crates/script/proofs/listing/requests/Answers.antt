@@ -12,7 +12,7 @@ returns-in-None c = record { value = requests_none_left 99999 _ _ _ _ c.in-None.
 
 pub loop-rest-preserved : goal.loop-rest-preserved
 loop-rest-preserved c =
-    let pushed = c.in-ok-push.ensures in
+    let pushed = c.in_ok-push-in-Some.ensures in
     let cut = c.in-Some.ensures.value in
     let asked = c.request.ensures.value in
     (requests_more 99999 _ _ _ _ _ _ _ _ _ (omega arith) pushed.len cut asked pushed.items c.loop-rest.invariant.0, omega arith)
@@ -20,5 +20,5 @@ loop-rest-preserved c =
 pub returns : goal.returns
 returns c = record { value = requests_full 99999 _ _ _ _ (omega arith) c.loop-rest.invariant.0; cut = cut_lines _ }
 
-pub returns-in-err-push : goal.returns-in-err-push
-returns-in-err-push c = record { value = IfOk-from_err _ _ c.from-residual.ensures.0; cut = cut_lines _ }
+pub returns-in_err-push-in-Some : goal.returns-in_err-push-in-Some
+returns-in_err-push-in-Some c = record { value = IfOk-from_err _ _ c.from_residual.ensures.0; cut = cut_lines _ }

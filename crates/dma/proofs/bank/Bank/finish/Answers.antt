@@ -5,11 +5,15 @@ use Rattle.dma.specs.State.{row_at}
 use Rattle.dma.proofs.Changes.{row_changed, sound_table, service_keeps}
 use Rattle.dma.proofs.bank.Bank.finish.Goals as goal
 
-pub invariant-of-self : goal.invariant-of-self
-invariant-of-self c =
+pub invariant_of-self : goal.invariant_of-self
+invariant_of-self c =
     let b = c.args.self.now in
     let r = row_at b.rows c.args.c in
-    (sound_table b.rows c.args.c (return_row_refusal r) returned _ c.finish-answer.ensures.after b.channels (λ _. service_keeps r r.requested false), (b.words, (b.remembered, tt)))
+    record {
+      channels = sound_table b.rows c.args.c (return_row_refusal r) returned _ c.finish-answer.ensures.after b.channels (λ _. service_keeps r r.requested false);
+      words = b.words;
+      remembered = b.remembered;
+    }
 
 pub returns : goal.returns
 returns c =

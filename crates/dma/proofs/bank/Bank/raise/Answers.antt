@@ -6,7 +6,11 @@ use Rattle.dma.specs.State.{row_at}
 use Rattle.dma.proofs.Changes.{sound_map, asked_keeps}
 use Rattle.dma.proofs.bank.Bank.raise.Goals as goal
 
-pub invariant-of-self : goal.invariant-of-self
-invariant-of-self c =
+pub invariant_of-self : goal.invariant_of-self
+invariant_of-self c =
     let b = c.args.self.now in
-    (subst (λ (rows : List Row). (k : ℕ) → sound (row_at rows k) ≡ true) (sym c.ask-all.ensures.after) (sound_map b.rows (asked c.args.source) b.channels (asked_keeps c.args.source)), (b.words, (b.remembered, tt)))
+    record {
+      channels = subst (λ (rows : List Row). (k : ℕ) → sound (row_at rows k) ≡ true) (sym c.ask_all.ensures.after) (sound_map b.rows (asked c.args.source) b.channels (asked_keeps c.args.source));
+      words = b.words;
+      remembered = b.remembered;
+    }

@@ -6,7 +6,11 @@ use Rattle.dma.specs.Stops.{halted}
 use Rattle.dma.proofs.Changes.{sound_map, halted_keeps}
 use Rattle.dma.proofs.bank.Bank.stop.Goals as goal
 
-pub invariant-of-self : goal.invariant-of-self
-invariant-of-self c =
+pub invariant_of-self : goal.invariant_of-self
+invariant_of-self c =
     let b = c.args.self.now in
-    (subst (λ (rows : List Row). (k : ℕ) → sound (row_at rows k) ≡ true) (sym c.halt-all.ensures.after) (sound_map b.rows halted b.channels halted_keeps), (b.words, (b.remembered, tt)))
+    record {
+      channels = subst (λ (rows : List Row). (k : ℕ) → sound (row_at rows k) ≡ true) (sym c.halt_all.ensures.after) (sound_map b.rows halted b.channels halted_keeps);
+      words = b.words;
+      remembered = b.remembered;
+    }

@@ -10,5 +10,5 @@ returns c =
     record {
       value = said.value;
       after = said.after;
-      no-listener-changes-nothing = λ there none. (said.value ∙ nobody_answers s c.args.source there none, said.after ∙ nothing_changes s c.args.source there none);
+      no_listener_changes_nothing = λ there none. (said.value ∙ nobody_answers s c.args.source there none, said.after ∙ nothing_changes s c.args.source there none);
     }
