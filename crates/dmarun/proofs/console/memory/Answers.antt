@@ -5,5 +5,5 @@ pub returns : goal.returns
 returns c =
     record {
       meaning =
-          composed _ _ c.in-ok-words.ensures.value (c.in-ok-bytes.ensures.items-if-clones-equal (λ y e. e)) _ _ c.new.ensures.meaning c.new-2.ensures.meaning;
+          composed _ _ c.in_ok-words.ensures.value (c.in_ok-bytes.ensures.items_if_clones_equal (λ y e. e)) _ _ c.new.ensures.meaning c.new-2.ensures.meaning;
     }

@@ -7,7 +7,7 @@ loop-channel-preserved c =
     let d = c.loop-channel.device in
     closed_below (state d.controller) _ c.loop-channel.channel c.loop-channel-test.true d.channels c.finish.ensures.after c.loop-channel.invariant
 
-pub into-services-requires : goal.into-services-requires
-into-services-requires c =
+pub into_services-requires : goal.into_services-requires
+into_services-requires c =
     let d = c.loop-channel.device in
     closed_everywhere (state d.controller).rows c.loop-channel.channel d.channels c.loop-channel-test.false c.loop-channel.invariant

@@ -8,8 +8,8 @@ use Rattle.history.proofs.awake.Awake.finish_channel.Goals as goal
 token_held : (services : List (Option Service)) (c : ℕ) (read taken : Option Service) (service : Service) → c < length services → taken ≡ get_or services c read → taken ≡ Some service → get_or services c None ≡ Some service
 token_held services c read taken service inside e is = get_or_default services c None read inside ∙ sym e ∙ is
 
-pub invariant-of-result-in-Ok : goal.invariant-of-result-in-Ok
-invariant-of-result-in-Ok c =
+pub invariant_of-result-in-Ok : goal.invariant_of-result-in-Ok
+invariant_of-result-in-Ok c =
     let d = c.args.self in
     let inside : c.args.channel < length d.services = omega arith in
     let held = token_held d.services c.args.channel _ _ _ inside c.take.ensures.value c.in-Some.is in
