@@ -99,12 +99,17 @@ module _ (services : List (Option Service)) (rows after : List Row) (same : Same
   pub still_tied : ((k : ℕ) → tied services rows k ≡ true) → (k : ℕ) → tied services after k ≡ true
   still_tied all k = ap (stands_for (get_or services k None) k) (same.serving k) ∙ all k
 
-pub kept : (services : List (Option Service)) (s t u : State) → u ≡ t → SameServices s.rows t.rows → length s.rows ≡ 6 → ((k : ℕ) → tied services s.rows k ≡ true) → (length u.rows ≡ 6) × (((k : ℕ) → tied services u.rows k ≡ true) × Unit {0})
+-- what a device keeps: six rows, and each token tied to its row
+pub record Tied (services : List (Option Service)) (rows : List Row) : Type 0 where
+  pub channels : length rows ≡ 6
+  pub tokens : (k : ℕ) → tied services rows k ≡ true
+
+pub kept : (services : List (Option Service)) (s t u : State) → u ≡ t → SameServices s.rows t.rows → length s.rows ≡ 6 → ((k : ℕ) → tied services s.rows k ≡ true) → Tied services u.rows
 kept services s t u e same six all =
     subst
-    (λ (v : State). (length v.rows ≡ 6) × (((k : ℕ) → tied services v.rows k ≡ true) × Unit {0}))
+    (λ (v : State). Tied services v.rows)
     (sym e)
-    (still_six services s.rows t.rows same six, (still_tied services s.rows t.rows same all, tt))
+    record { channels = still_six services s.rows t.rows same six; tokens = still_tied services s.rows t.rows same all }
 
 -- the token of a channel is its own, and stands for an open service
 pub own_token : (services : List (Option Service)) (rows : List Row) (c : ℕ) (service : Service) → get_or services c None ≡ Some service → tied services rows c ≡ true → ((row_at rows c).serving ≡ true) × (service.channel ≡ c)
@@ -136,17 +141,15 @@ never_handed_back s c d refusal e same h =
     omega arith
 
 -- a return takes the token away and closes the service
-pub token_spent : (services : List (Option Service)) (s u : State) (c : ℕ) (service : Service) (token : Option Service) → token ≡ None → u ≡ after_return s service.channel → get_or services c None ≡ Some service → c < length services → c < 6 → length s.rows ≡ 6 → ((k : ℕ) → tied services s.rows k ≡ true) → (length u.rows ≡ 6) × (((k : ℕ) → tied (set services c token) u.rows k ≡ true) × Unit {0})
+pub token_spent : (services : List (Option Service)) (s u : State) (c : ℕ) (service : Service) (token : Option Service) → token ≡ None → u ≡ after_return s service.channel → get_or services c None ≡ Some service → c < length services → c < 6 → length s.rows ≡ 6 → ((k : ℕ) → tied services s.rows k ≡ true) → Tied (set services c token) u.rows
 token_spent services s u c service token gone e held inside below six all =
     let own = own_token services s.rows c service held (all c) in
     let closed : u ≡ change s c returned = e ∙ ap (after_return s) own.1 ∙ ap (λ o. unless o s (change s c returned)) (while_open s c own.0) in
     let within : c < length s.rows = omega arith in
     subst
-    (λ (v : State). (length v.rows ≡ 6) × (((k : ℕ) → tied (set services c token) v.rows k ≡ true) × Unit {0}))
-    (sym closed) (
-      length-set s.rows c _ ∙ six,
-      (
-        subst (λ t. (k : ℕ) → tied (set services c t) (change s c returned).rows k ≡ true) (sym gone) (both_changed services s.rows c None _ inside within refl all),
-        tt,
-      ),
-    )
+    (λ (v : State). Tied (set services c token) v.rows)
+    (sym closed)
+    record {
+      channels = length-set s.rows c _ ∙ six;
+      tokens = subst (λ t. (k : ℕ) → tied (set services c t) (change s c returned).rows k ≡ true) (sym gone) (both_changed services s.rows c None _ inside within refl all);
+    }

@@ -13,7 +13,8 @@ invariant_of-result-in-Ok c =
     let d = c.args.self in
     let inside : c.args.channel < length d.services = omega arith in
     let held = token_held d.services c.args.channel _ _ _ inside c.take.ensures.value c.in-Some.is in
-    token_spent d.services (state d.controller) _ c.args.channel c.in-Some.service _ c.take.ensures.after c.finish.ensures.after held inside c.requires d.channels d.tokens
+    let still = token_spent d.services (state d.controller) _ c.args.channel c.in-Some.service _ c.take.ensures.after c.finish.ensures.after held inside c.requires d.channels d.tokens in
+    record { channels = still.channels; tokens = still.tokens }
 
 pub unreachable-requires : goal.unreachable-requires
 unreachable-requires c =
