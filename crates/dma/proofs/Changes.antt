@@ -12,11 +12,11 @@ use Rattle.registers.specs.declared.control.Spaces.{Spaces}
 use Rattle.registers.specs.declared.control.TransferMode.{TransferMode}
 use Rattle.registers.specs.Control.{enable, mode_of, mode_number, shape_of, spaces_of, set_up}
 use Rattle.registers.proofs.Layouts.{cut_fits, words_left_fit}
-use Rattle.dma.specs.Channels.{zero_settings, settings, layout, preloaded, counted, busy, listens, captures}
+use Rattle.dma.specs.Channels.{zero_settings, settings, layout, preloaded, counted, listens, captures}
 use Rattle.dma.specs.Raises.{asked}
 use Rattle.dma.specs.Stops.{halted}
 use Rattle.dma.specs.Refusing.{unless}
-use Rattle.dma.specs.Sets.{if_busy, control_refusal, row_refusal, row_set, change}
+use Rattle.dma.specs.Sets.{row_refusal, row_set, change}
 use Rattle.dma.specs.Services.{with_service}
 use Rattle.dma.specs.Soundness.{sound}
 use Rattle.dma.specs.State.{State, reset_row, row_at}

@@ -1,9 +1,8 @@
 -- A set of the control word keeps a row sound.
-use Rattle.std.proofs.Common.{◌≡◌, ℕ, ◌+◌, ◌-◌, ◌*◌, ◌/◌, ◌%◌, ◌^◌, ◌<◌, ◌≤◌, Bool, true, false, cond, not, ◌&&◌, ◌||◌, eqb, is_some, Some, None, Option, unwrap_or, sym, refl, ap, ◌∙◌, subst, ⊎_elim, zero-le, arith}
+use Rattle.std.proofs.Common.{◌≡◌, ℕ, ◌/◌, ◌%◌, ◌^◌, ◌<◌, ◌≤◌, Bool, true, false, cond, not, ◌||◌, eqb, is_some, Some, None, Option, unwrap_or, sym, refl, ap, ◌∙◌, subst, ⊎_elim, zero-le, arith}
 use Rattle.std.proofs.lemmas.Bool.{eqb-true, not-false, and_cases, or_cases, cases_Bool, both_ways, cond_both}
 use Rattle.memory.specs.declared.refusal.Refusal.{Refusal}
 use Rattle.memory.specs.declared.refusal.Refusal.TheVariants.{Busy}
-use Rattle.registers.specs.declared.control.Settings.{Settings}
 use Rattle.registers.specs.declared.control.Shape.{Shape}
 use Rattle.registers.specs.declared.control.Spaces.{Spaces}
 use Rattle.registers.specs.declared.control.TransferMode.{TransferMode}

@@ -1,12 +1,9 @@
 -- A source that no channel listens to.
-use Rattle.std.proofs.Common.{◌≡◌, ℕ, suc, ◌+◌, Bool, true, false, cond, ◌&&◌, List, [], ◌∷◌, map, Ok, Err, Result, sym, refl, ap, ◌∙◌}
+use Rattle.std.proofs.Common.{◌≡◌, ℕ, suc, ◌+◌, Bool, false, List, [], ◌∷◌, map, Ok, refl, ap, ◌∙◌}
 use Rattle.std.proofs.lemmas.Bool.{and_left, cond-false}
-use Rattle.memory.specs.declared.refusal.Refusal.{Refusal}
-use Rattle.memory.specs.declared.refusal.Refusal.TheVariants.{NoSuchSource}
-use Rattle.dma.specs.declared.register.Masks.{Masks}
 use Rattle.dma.specs.declared.row.Row.{Row}
 use Rattle.dma.specs.Channels.{listens, captures, misses, made_due}
-use Rattle.dma.specs.Raises.{no_such_source, bit, mask, masks_of, with_due, asked, raised, raise_answer, after_raise, NobodyListens, no_masks}
+use Rattle.dma.specs.Raises.{no_such_source, bit, mask, with_due, asked, raise_answer, after_raise, NobodyListens, no_masks}
 use Rattle.dma.specs.State.{State, row_at}
 
 -- a test that holds of no channel gives an empty mask

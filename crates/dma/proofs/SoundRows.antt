@@ -1,15 +1,15 @@
 -- A sound row, by its facts.
-use Rattle.std.proofs.Common.{◌≡◌, ℕ, ◌+◌, ◌*◌, ◌^◌, ◌<◌, ◌≤◌, Bool, true, false, cond, not, ◌&&◌, ◌||◌, eqb, ltb, leb, is_some, sym, refl, ap, ◌∙◌, subst, ⊎_elim, arith}
-use Rattle.std.proofs.lemmas.Bool.{and_parts, and_from, leb-true, le-leb, ltb-true, lt-ltb, eqb-true, eq-eqb, or_right, cases_Bool}
+use Rattle.std.proofs.Common.{◌≡◌, ℕ, ◌^◌, ◌<◌, ◌≤◌, Bool, true, false, not, ◌||◌, eqb, is_some, refl, ap, arith}
+use Rattle.std.proofs.lemmas.Bool.{and_parts, and_from, leb-true, le-leb, ltb-true, lt-ltb, or_right}
 use Rattle.std.proofs.lemmas.Bool.Decides.{nat_tests}
 use Rattle.registers.specs.declared.counter.Fields.{Fields}
 use Rattle.registers.specs.Control.{settings_of, enable}
 use Rattle.registers.specs.Counter.{cut, words_left, Within}
-use Rattle.registers.proofs.Counting.{within_itself, some_word_left}
+use Rattle.registers.proofs.Counting.{within_itself}
 use Rattle.dma.specs.declared.row.Row.{Row}
-use Rattle.dma.specs.Channels.{settings, layout, preloaded, counted, busy, requested_words, made_due}
+use Rattle.dma.specs.Channels.{layout, preloaded, counted}
 use Rattle.dma.specs.Sets.{with_source, with_destination, with_counter}
-use Rattle.dma.specs.Soundness.{within, is_word, holds_words, sound}
+use Rattle.dma.specs.Soundness.{within, holds_words, sound}
 
 pub record Sound (r : Row) : Type 0 where
   pub source : r.source < 2 ^ 24

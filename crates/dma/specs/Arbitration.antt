@@ -1,5 +1,5 @@
 -- Which channel the next slot serves.
-use Rattle.std.specs.Prelude.{ℕ, zero, suc, ◌+◌, ◌%◌, Bool, true, false, cond, ◌&&◌, ◌||◌, List, get_or, Some, None, Option, ◌==◌, slice_index, slice_index_or}
+use Rattle.std.specs.Prelude.{ℕ, zero, suc, ◌+◌, ◌%◌, Bool, false, cond, ◌&&◌, ◌||◌, get_or, Some, None, Option, ◌==◌, slice_index, slice_index_or}
 use Rattle.dma.specs.declared.arbitration.Contest.{Contest}
 
 -- a channel of this priority has words due

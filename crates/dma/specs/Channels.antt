@@ -1,5 +1,5 @@
 -- What one channel does: its settings, the block it is in, what a request makes due, and how it goes on after a word.
-use Rattle.std.specs.Prelude.{ℕ, ◌+◌, ◌-◌, ◌*◌, ◌%◌, ◌^◌, Bool, true, false, cond, not, ◌&&◌, ◌||◌, List, is_some, ◌==◌, nat_lt}
+use Rattle.std.specs.Prelude.{ℕ, ◌+◌, Bool, true, false, not, ◌&&◌, ◌||◌, ◌==◌, nat_lt}
 use Rattle.std.specs.Option.{unwrap_or}
 use Rattle.memory.specs.declared.place.Space.TheVariants.{X}
 use Rattle.registers.specs.declared.control.Settings.{Settings}
@@ -9,11 +9,9 @@ use Rattle.registers.specs.declared.counter.Fields.{Fields}
 use Rattle.registers.specs.declared.counter.Layout.{Layout}
 use Rattle.registers.specs.declared.counter.Layout.TheVariants.{B}
 use Rattle.registers.specs.declared.update.Update.TheVariants.{TwoDimensional}
-use Rattle.registers.specs.Control.{settings_of, enable, field}
-use Rattle.registers.specs.Counter.{cut, joined, block_length, position, words_left, stepped, ends_block}
-use Rattle.registers.specs.Updates.{updated}
+use Rattle.registers.specs.Control.{settings_of}
+use Rattle.registers.specs.Counter.{cut, words_left}
 use Rattle.dma.specs.declared.row.Row.{Row}
-use Rattle.dma.specs.State.{State, row_at}
 
 -- the settings of the control word 0
 abbrev pub zero_settings : Settings

@@ -1,5 +1,5 @@
 -- What a get of a register answers.
-use Rattle.std.specs.Prelude.{ℕ, ◌+◌, ◌*◌, ◌^◌, Bool, cond, not, ◌||◌, List, [], ◌∷◌, Some, None, Ok, Err, Option, Result, nat_lt, slice_index}
+use Rattle.std.specs.Prelude.{ℕ, ◌+◌, ◌*◌, ◌^◌, cond, not, List, [], ◌∷◌, Some, None, Ok, Err, Option, Result, nat_lt, slice_index}
 use Rattle.memory.specs.declared.refusal.Refusal.{Refusal}
 use Rattle.memory.specs.declared.refusal.Refusal.TheVariants.{NoSuchRegister}
 use Rattle.dma.specs.declared.arbitration.Contest.{Contest}

@@ -1,16 +1,12 @@
 -- One slot: at most one word moves.
-use Rattle.std.specs.Prelude.{ℕ, ◌+◌, ◌-◌, Bool, true, false, cond, not, ◌&&◌, ◌||◌, List, Some, None, Ok, Err, Option, Result, ◌==◌, slice_set}
+use Rattle.std.specs.Prelude.{ℕ, ◌+◌, ◌-◌, Bool, false, cond, not, ◌&&◌, ◌||◌, List, ◌==◌, slice_set}
 use Rattle.memory.specs.declared.place.Place.{Place}
-use Rattle.memory.specs.declared.refusal.Fault.{Fault}
-use Rattle.memory.specs.Meaning.{Meaning, load_answer, store_answer, after_store}
-use Rattle.registers.specs.declared.counter.Fields.{Fields}
 use Rattle.registers.specs.Counter.{joined, stepped, ends_block}
 use Rattle.registers.specs.Updates.{updated}
 use Rattle.dma.specs.declared.register.Masks.{Masks}
 use Rattle.dma.specs.declared.row.Row.{Row}
 use Rattle.dma.specs.Channels.{settings, layout, preloaded, counted, keeps_enable, draining}
 use Rattle.dma.specs.Raises.{masks_of, raised, no_masks}
-use Rattle.dma.specs.Reads.{next_served}
 use Rattle.dma.specs.Sets.{disabled, change}
 use Rattle.dma.specs.State.{State, row_at}
 

@@ -1,5 +1,5 @@
 -- Eight worked cases of the registers and of arbitration, as one table of values.
-use Rattle.std.specs.Prelude.{◌≡◌, ℕ, zero, suc, Bool, true, false, List, [], ◌∷◌, replicate, Some, None, Option}
+use Rattle.std.specs.Prelude.{◌≡◌, ℕ, zero, suc, true, false, List, [], ◌∷◌, replicate, Some, None, Option}
 use Rattle.memory.specs.declared.refusal.Refusal.{Refusal}
 use Rattle.memory.specs.Refusals.{number}
 use Rattle.registers.specs.Counter.{block_length}

@@ -1,5 +1,5 @@
 -- The console's memory, word by word.
-use Rattle.std.proofs.Common.{◌≡◌, ℕ, ◌+◌, ◌-◌, ◌<◌, ◌≤◌, cond, List, length, get_or, set, replicate, sym, refl, ap, ◌∙◌, subst, ⊎_elim, arith}
+use Rattle.std.proofs.Common.{◌≡◌, ℕ, ◌+◌, ◌-◌, ◌<◌, ◌≤◌, cond, List, length, get_or, set, replicate, ap, ◌∙◌, ⊎_elim, arith}
 use Rattle.std.proofs.lemmas.List.{get_or-set_same, get_or-set_other, length-set, get_or-replicate, length-replicate, get_or_past}
 use Rattle.std.proofs.lemmas.Bool.{cases_eq, cases_lt}
 use Rattle.memory.specs.declared.flat.FlatSizes.{FlatSizes}
@@ -12,7 +12,7 @@ use Rattle.memory.specs.Flat.{flat_owner, flat_unfit, flat_word, flat_kind, flat
 use Rattle.memory.specs.Meaning.{Meaning, nowhere}
 use Rattle.memory.specs.Packed.{packed_owner, packed_unfit, packed_word, packed_kind, packed_of, made_packed}
 use Rattle.std.proofs.lemmas.Bool.Decides.{nat_tests}
-use Rattle.dmarun.specs.Console.{low_kind, high_kind, first_word, console_kind, console, Image}
+use Rattle.dmarun.specs.Console.{low_kind, high_kind, first_word, console, Image}
 
 -- the list once the fixed places below n have their addresses
 pub record SoFar (words : List ℕ) (n : ℕ) : Type 0 where

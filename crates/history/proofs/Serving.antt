@@ -13,7 +13,7 @@ use Rattle.dma.specs.Channels.{settings, by_words, captures}
 use Rattle.dma.specs.Raises.{no_such_source, asked, after_raise, raised}
 use Rattle.dma.specs.Refusing.{unless}
 use Rattle.dma.specs.Services.{return_refusal, after_return, returned}
-use Rattle.dma.specs.Sets.{row_set, after_control, switched_off, switched_on, with_control, change, set_refusal, set_state, after_set}
+use Rattle.dma.specs.Sets.{after_control, switched_off, with_control, change, set_refusal, set_state, after_set}
 use Rattle.dma.specs.State.{State, reset_row, row_at}
 use Rattle.dma.specs.Stops.{halted, after_stop}
 use Rattle.history.specs.Open.{stands_for, tied}

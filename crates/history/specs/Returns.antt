@@ -1,5 +1,5 @@
 -- A return names a channel, in place of a token.
-use Rattle.std.specs.Prelude.{ℕ, cond, Some, None, Option, nat_lt}
+use Rattle.std.specs.Prelude.{ℕ, cond, Some, Option, nat_lt}
 use Rattle.memory.specs.declared.refusal.Refusal.{Refusal}
 use Rattle.memory.specs.declared.refusal.Refusal.TheVariants.{NoSuchRegister}
 use Rattle.dma.specs.Services.{return_refusal, after_return}

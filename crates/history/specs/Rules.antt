@@ -1,9 +1,7 @@
 -- The rules of a device: what each call is answered, and what it leaves.
-use Rattle.std.specs.Prelude.{ℕ, Bool, true, false, cond}
-use Rattle.memory.specs.declared.place.Place.{Place}
+use Rattle.std.specs.Prelude.{Bool, true, false, cond}
 use Rattle.memory.specs.declared.refusal.Refusal.TheVariants.{NotNow}
 use Rattle.memory.specs.Meaning.{Meaning, load_answer, store_answer, after_store}
-use Rattle.dma.specs.declared.register.Register.{Register}
 use Rattle.dma.specs.Raises.{raise_answer, after_raise}
 use Rattle.dma.specs.Reads.{get_answer}
 use Rattle.dma.specs.Refusing.{answer}

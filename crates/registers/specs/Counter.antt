@@ -1,5 +1,5 @@
 -- The counter DCO: its fields by layout, the length of a block, the position in it, and the step after a word.
-use Rattle.std.specs.Prelude.{◌≡◌, ℕ, ◌+◌, ◌-◌, ◌*◌, ◌/◌, ◌%◌, ◌^◌, ◌≤◌, Bool, cond, ◌&&◌, ◌==◌}
+use Rattle.std.specs.Prelude.{ℕ, ◌+◌, ◌-◌, ◌*◌, ◌^◌, ◌≤◌, Bool, cond, ◌&&◌, ◌==◌}
 use Rattle.registers.specs.declared.counter.Fields.{Fields}
 use Rattle.registers.specs.declared.counter.Layout.{Layout}
 use Rattle.registers.specs.declared.counter.Layout.TheVariants.{A, B, C, D, E}

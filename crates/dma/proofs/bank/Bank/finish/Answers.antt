@@ -1,4 +1,4 @@
-use Rattle.std.proofs.Common.{true, false}
+use Rattle.std.proofs.Common.{false}
 use Rattle.dma.specs.Banks.{state_of}
 use Rattle.dma.specs.Services.{return_row_refusal, returned}
 use Rattle.dma.specs.State.{row_at}

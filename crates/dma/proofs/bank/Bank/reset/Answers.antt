@@ -1,4 +1,4 @@
-use Rattle.std.proofs.Common.{◌≡◌, ◌<◌, true, refl, arith, lit<}
+use Rattle.std.proofs.Common.{◌≡◌, ◌<◌, true, refl, lit<}
 use Rattle.dma.specs.Soundness.{sound}
 use Rattle.dma.specs.State.{reset_row}
 use Rattle.dma.proofs.Tables.{all_of_replicate}
