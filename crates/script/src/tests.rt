@@ -109,7 +109,7 @@ fn forms_are_answered_in_turn(rt: HostRuntime) -> Result<(), Fail> {
     let answers = answer_all(rt.alloc(), &mut Addresses, &forms)?;
     let refused = Answer::Fault(fault(Refusal::FixedStore, place));
     let wanted = [Answer::Word(0xABC), refused, Answer::NoForm];
-    assert!(rt; answers.as_slice() == &wanted);
+    assert!(rt; answers.as_slice() == wanted.as_slice());
     Ok(())
 }
 
