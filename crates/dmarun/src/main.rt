@@ -4,6 +4,7 @@
 use script::listing::listing;
 use std::io;
 use std::io::{Read, Write};
+use std::process::ExitCode;
 
 mod console;
 
@@ -19,12 +20,12 @@ fn run(rt: &HostRuntime) -> io::Result<()> {
     out.flush()
 }
 
-fn main(rt: HostRuntime) -> io::Result<()> {
+fn main(rt: HostRuntime) -> ExitCode {
     match run(&rt) {
-        Ok(()) => Ok(()),
+        Ok(()) => ExitCode::SUCCESS,
         Err(error) => {
             let _ = eprintln!(rt; "dmarun: {error}");
-            Err(error)
+            ExitCode::FAILURE
         }
     }
 }

@@ -1,7 +1,7 @@
 // A flat memory's places: which there are, and their words.
 ghost use Rattle.std.specs.Prelude.{◌≡◌, ◌+◌, ◌<◌, vec_len, slice_set};
 ghost use Rattle.memory.specs.Flat.{covers, start_of, flat_fault, flat_of, flat_meaning};
-ghost use Rattle.std.proofs.Common.{rules, arith};
+ghost use Rattle.std.proofs.Common.{rules};
 
 use crate::flat::{Flat, FlatSizes};
 use crate::interface::Memory;
@@ -61,9 +61,9 @@ impl Flat {
 impl Memory for Flat {
     ghost meaning = { flat_meaning };
 
-    ghost words_fit = { first_of (Prim.search rules, Prim.grind (arith, Self.row.coded.inj)) };
+    ghost words_fit = { Prim.search rules };
 
-    ghost high_addresses_are_absent = { first_of (Prim.search rules, Prim.grind (arith, Self.row.coded.inj)) };
+    ghost high_addresses_are_absent = { Prim.search rules };
 
     fn kind(&self, place: Place) -> Kind {
         if !self.sizes.covers(place) {

@@ -1,7 +1,7 @@
 // A packed memory's places: which there are, and their words.
 ghost use Rattle.std.specs.Prelude.{◌≡◌, ◌+◌, ◌<◌, vec_len};
 ghost use Rattle.memory.specs.Packed.{holds_word, with_bytes, packed_fault, packed_of, packed_meaning};
-ghost use Rattle.std.proofs.Common.{rules, arith};
+ghost use Rattle.std.proofs.Common.{rules};
 
 use crate::interface::Memory;
 use crate::packed::{Packed, PackedSizes};
@@ -51,9 +51,9 @@ impl Packed {
 impl Memory for Packed {
     ghost meaning = { packed_meaning };
 
-    ghost words_fit = { first_of (Prim.search rules, Prim.grind (arith, Self.row.coded.inj)) };
+    ghost words_fit = { Prim.search rules };
 
-    ghost high_addresses_are_absent = { first_of (Prim.search rules, Prim.grind (arith, Self.row.coded.inj)) };
+    ghost high_addresses_are_absent = { Prim.search rules };
 
     fn kind(&self, place: Place) -> Kind {
         if self.sizes.holds_word(place) {
