@@ -33,46 +33,46 @@ pub enum Answer {
 }
 
 impl Answer {
-    pub(crate) fn done(res: Result<(), Refusal>) -> Answer
-        ensures value { result ≡ done res }
+    pub(crate) fn done(outcome: Result<(), Refusal>) -> Answer
+        ensures value { result ≡ done outcome }
     {
-        match res {
+        match outcome {
             Ok(()) => Answer::Done,
             Err(refusal) => Answer::Refused(refusal),
         }
     }
 
-    pub(crate) fn word(res: Result<u32, Refusal>) -> Answer
-        ensures value { result ≡ word res }
+    pub(crate) fn word(outcome: Result<u32, Refusal>) -> Answer
+        ensures value { result ≡ word outcome }
     {
-        match res {
+        match outcome {
             Ok(word) => Answer::Word(word),
             Err(refusal) => Answer::Refused(refusal),
         }
     }
 
-    pub(crate) fn raised(res: Result<Masks, Refusal>) -> Answer
-        ensures value { result ≡ raised res }
+    pub(crate) fn raised(outcome: Result<Masks, Refusal>) -> Answer
+        ensures value { result ≡ raised outcome }
     {
-        match res {
+        match outcome {
             Ok(masks) => Answer::Raised(masks),
             Err(refusal) => Answer::Refused(refusal),
         }
     }
 
-    pub(crate) fn loaded(res: Result<u32, Fault>) -> Answer
-        ensures value { result ≡ loaded res }
+    pub(crate) fn loaded(outcome: Result<u32, Fault>) -> Answer
+        ensures value { result ≡ loaded outcome }
     {
-        match res {
+        match outcome {
             Ok(word) => Answer::Word(word),
             Err(fault) => Answer::Fault(fault),
         }
     }
 
-    pub(crate) fn stored(res: Result<(), Fault>) -> Answer
-        ensures value { result ≡ stored res }
+    pub(crate) fn stored(outcome: Result<(), Fault>) -> Answer
+        ensures value { result ≡ stored outcome }
     {
-        match res {
+        match outcome {
             Ok(()) => Answer::Done,
             Err(fault) => Answer::Fault(fault),
         }
