@@ -5,6 +5,7 @@ use Rattle.memory.specs.declared.place.Space.TheVariants.{X}
 use Rattle.registers.specs.declared.control.Settings.{Settings}
 use Rattle.registers.specs.declared.control.TransferMode.{TransferMode}
 use Rattle.registers.specs.declared.control.TransferMode.TheVariants.{Block, Word, Line, BlockByEnable, BlockKeepingEnable, WordKeepingEnable}
+use Rattle.registers.specs.declared.counter.Counter.{Counter}
 use Rattle.registers.specs.declared.counter.Fields.{Fields}
 use Rattle.registers.specs.declared.counter.Layout.{Layout}
 use Rattle.registers.specs.declared.counter.Layout.TheVariants.{B}
@@ -32,6 +33,9 @@ settings r = unwrap_or (settings_of r.control) zero_settings
 
 abbrev pub layout : Row → Layout
 layout r = (settings r).shape.layout
+
+abbrev pub counter : Row → Counter
+counter r = record { layout = layout r; preload = r.preload; count = r.count }
 
 abbrev pub preloaded : Row → Fields
 preloaded r = cut (layout r) r.preload

@@ -1,11 +1,11 @@
 // One channel of the controller.
 ghost use Rattle.std.specs.Prelude.{◌≡◌};
-ghost use Rattle.dma.specs.Channels.{settings, busy, draining, listens, made_due, captures, misses};
+ghost use Rattle.dma.specs.Channels.{settings, counter, busy, draining, listens, made_due, captures, misses};
 ghost use Rattle.dma.specs.Raises.{asked};
 
 use memory::place::Space;
 use registers::control::{Settings, Shape, Spaces, TransferMode};
-use registers::counter::Layout;
+use registers::counter::{Counter, Layout};
 use registers::update::Update;
 
 // What a channel holds. After reset all of it is zero and false.
@@ -52,7 +52,17 @@ impl Row {
     pub fn settings(&self) -> Settings
         ensures value { result ≡ settings self.now }
     {
-        Settings::decode(self.control).unwrap_or(AT_RESET)
+        Settings::try_from(self.control).unwrap_or(AT_RESET)
+    }
+
+    pub fn counter(&self) -> Counter
+        ensures value { result ≡ counter self.now }
+    {
+        Counter {
+            layout: self.settings().shape.layout,
+            preload: self.preload,
+            count: self.count,
+        }
     }
 
     // DE is 1, or the done bit is 0.
@@ -84,12 +94,11 @@ impl Row {
         ensures value { result ≡ made_due self.now }
     {
         let settings = self.settings();
-        let layout = settings.shape.layout;
         match settings.mode {
             TransferMode::Word | TransferMode::WordKeepingEnable => 1,
-            TransferMode::Line => layout.line_length(self.count),
+            TransferMode::Line => settings.shape.layout.line_length(self.count),
             TransferMode::Block | TransferMode::BlockByEnable | TransferMode::BlockKeepingEnable =>
-                layout.words_left(self.preload, self.count),
+                self.counter().words_left(),
         }
     }
 

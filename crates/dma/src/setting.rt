@@ -2,12 +2,12 @@
 ghost use Rattle.std.specs.Prelude.{◌≡◌};
 ghost use Rattle.dma.specs.Channels.{busy};
 ghost use Rattle.dma.specs.Refusing.{answer, unless};
-ghost use Rattle.dma.specs.Sets.{disabled, reshapes, if_busy, with_source, with_destination, with_counter, switched_off, switched_on, at_rest_refusal, control_refusal, after_control, row_refusal, row_set};
+ghost use Rattle.dma.specs.Sets.{disabled, reshapes, if_busy, switched_off, switched_on, at_rest_refusal, control_refusal, after_control, row_refusal, row_set};
 
-use crate::register::Register;
 use crate::row::Row;
 use memory::refusal::Refusal;
 use registers::control::{Shape, Spaces, TransferMode, enabled};
+use registers::register::Register;
 
 // The control word with DE cleared.
 fn disabled(word: u32) -> u32
@@ -32,35 +32,6 @@ impl Row {
         } else {
             Ok(())
         }
-    }
-
-    pub fn set_source(&mut self, address: u32) -> Result<(), Refusal>
-        ensures value { result ≡ answer (if_busy self.old) }
-        ensures after { self.new ≡ unless (if_busy self.old) self.old (with_source self.old address) }
-    {
-        self.refuse_if_busy()?;
-        self.source = address;
-        Ok(())
-    }
-
-    pub fn set_destination(&mut self, address: u32) -> Result<(), Refusal>
-        ensures value { result ≡ answer (if_busy self.old) }
-        ensures after { self.new ≡ unless (if_busy self.old) self.old (with_destination self.old address) }
-    {
-        self.refuse_if_busy()?;
-        self.destination = address;
-        Ok(())
-    }
-
-    // Fixes both what is left of the block and what each block starts from.
-    pub fn set_counter(&mut self, word: u32) -> Result<(), Refusal>
-        ensures value { result ≡ answer (if_busy self.old) }
-        ensures after { self.new ≡ unless (if_busy self.old) self.old (with_counter self.old word) }
-    {
-        self.refuse_if_busy()?;
-        self.count = word;
-        self.preload = word;
-        Ok(())
     }
 
     // DE has been cleared: a due word of DTM 1 and 5 drains first, other due words are lost.
@@ -99,11 +70,10 @@ impl Row {
     fn refuse_at_rest(&self, word: u32) -> Result<(), Refusal>
         ensures value { result ≡ answer (at_rest_refusal self.now word) }
     {
-        TransferMode::decode(word).ok_or(Refusal::ReservedMode)?;
-        Shape::decode(word).ok_or(Refusal::ReservedShape)?;
-        Spaces::decode(word).ok_or(Refusal::ReservedSpace)?;
-        let layout = self.settings().shape.layout;
-        if reshapes(self.control, word) && layout.position(self.preload, self.count) != 0 {
+        TransferMode::try_from(word)?;
+        Shape::try_from(word)?;
+        Spaces::try_from(word)?;
+        if reshapes(self.control, word) && self.counter().position() != 0 {
             return Err(Refusal::ShapeInMidBlock);
         }
         Ok(())
@@ -138,26 +108,33 @@ impl Row {
         }
     }
 
-    pub fn set_control(&mut self, word: u32) -> Result<(), Refusal>
-        ensures value { result ≡ answer (control_refusal self.old word) }
-        ensures after { self.new ≡ unless (control_refusal self.old word) self.old (after_control self.old word) }
+    // What a set of a register of this channel is refused with; the offsets and the status are no channel's.
+    fn refuse(&self, register: Register, value: u32) -> Result<(), Refusal>
+        ensures value { result ≡ answer (row_refusal self.now register value) }
     {
-        self.refuse_control(word)?;
-        self.take_control(word);
-        Ok(())
+        match register {
+            Register::Dsr(_) | Register::Ddr(_) | Register::Dco(_) => self.refuse_if_busy(),
+            Register::Dcr(_) => self.refuse_control(value),
+            Register::Dor(_) | Register::Dstr => Ok(()),
+        }
     }
 
-    // Sets a register of this channel; the offsets and the status are no channel's.
     pub fn set(&mut self, register: Register, value: u32) -> Result<(), Refusal>
         ensures value { result ≡ answer (row_refusal self.old register value) }
         ensures after { self.new ≡ unless (row_refusal self.old register value) self.old (row_set self.old register value) }
     {
+        self.refuse(register, value)?;
         match register {
-            Register::Dsr(_) => self.set_source(value),
-            Register::Ddr(_) => self.set_destination(value),
-            Register::Dco(_) => self.set_counter(value),
-            Register::Dcr(_) => self.set_control(value),
-            Register::Dor(_) | Register::Dstr => Ok(()),
+            Register::Dsr(_) => self.source = value,
+            Register::Ddr(_) => self.destination = value,
+            // Both what is left of the block and what each block starts from.
+            Register::Dco(_) => {
+                self.count = value;
+                self.preload = value;
+            }
+            Register::Dcr(_) => self.take_control(value),
+            Register::Dor(_) | Register::Dstr => {}
         }
+        Ok(())
     }
 }

@@ -32,12 +32,6 @@ words_left_within_room q p f room fits = omega (arith, words_left_grow p q f q r
 pub words_left_within_block : (p f : Fields) → Within p f → words_left p f ≤ block_length p
 words_left_within_block p f w = words_left_within_room p p f (within_itself p) w
 
-pub some_word_in_block : (p : Fields) → 0 < block_length p
-some_word_in_block p = omega (arith, all_words_left_at_preload p)
-
-pub block_within_room : (q p : Fields) → Within q p → block_length p ≤ block_length q
-block_within_room q p room = omega (arith, all_words_left_at_preload p, words_left_within_room q p p room room)
-
 pub moved_and_left_make_block : (p f : Fields) → Within p f → position p f + words_left p f ≡ block_length p
 moved_and_left_make_block p f w = omega (arith, words_left_within_block p f w)
 
@@ -102,13 +96,3 @@ block_end_returns_all p f end = rw end
 
 pub block_end_at_last_word : (p f : Fields) → ends_block f ≡ true → words_left p f ≡ 1
 block_end_at_last_word p f end = grind (arith, nat_tests)
-
-pub last_word_ends_block : (p f : Fields) → words_left p f ≡ 1 → ends_block f ≡ true
-last_word_ends_block p f last =
-    let high : f.high ≡ 0 = omega arith in
-    let middle : f.middle ≡ 0 = omega arith in
-    let low : f.low ≡ 0 = omega arith in
-    rw (high, middle, low)
-
-pub block_ends_exactly_at_last_word : (p f : Fields) → (ends_block f ≡ true) ↔ (words_left p f ≡ 1)
-block_ends_exactly_at_last_word p f = (block_end_at_last_word p f, last_word_ends_block p f)

@@ -1,11 +1,12 @@
 -- Counters and their fields, by layout.
 use Rattle.std.proofs.Common.{◌≡◌, ℕ, ◌^◌, ◌<◌, ◌≤◌, true, false, ◌↔◌, sym, refl, ap, ◌∙◌, arith}
+use Rattle.registers.specs.declared.counter.Counter.{Counter}
 use Rattle.registers.specs.declared.counter.Fields.{Fields}
 use Rattle.registers.specs.declared.counter.Layout.{Layout}
 use Rattle.registers.specs.declared.counter.Layout.TheVariants.{A, B, C, D, E}
-use Rattle.registers.specs.Counter.{cut, joined, block_length, words_left, position, Within, ends_block, stepped}
-use Rattle.registers.specs.Laws.{largest, counted, GoesOn, StartsAgain}
-use Rattle.registers.proofs.Counting.{same_fields, nothing_moved_at_preload, nothing_moved_is_preload, stepped_fits, stepped_within, step_takes_one_word, step_moves_one_word, block_end_returns_all, block_end_at_last_word, block_within_room, words_left_within_room}
+use Rattle.registers.specs.Counter.{cut, joined, block_length, words_left, position, Within, ends_block, stepped, preloaded, counted}
+use Rattle.registers.specs.Laws.{largest, after_word, GoesOn, StartsAgain}
+use Rattle.registers.proofs.Counting.{same_fields, nothing_moved_at_preload, nothing_moved_is_preload, stepped_fits, step_takes_one_word, step_moves_one_word, block_end_returns_all, block_end_at_last_word, words_left_within_room}
 
 pub cut_fits : (l : Layout) (w : ℕ) → Within (largest l) (cut l w)
 cut_fits A w = record { high = omega arith; middle = omega arith; low = omega arith }
@@ -21,18 +22,8 @@ longest_block C = refl
 longest_block D = refl
 longest_block E = refl
 
-pub block_fits : (l : Layout) (p : Fields) → Within (largest l) p → block_length p ≤ 2 ^ 24
-block_fits l p fits = omega (arith, block_within_room (largest l) p fits, longest_block l)
-
 pub words_left_fit : (l : Layout) (p f : Fields) → Within (largest l) p → Within (largest l) f → words_left p f ≤ 2 ^ 24
 words_left_fit l p f fits-p fits-f = omega (arith, words_left_within_room (largest l) p f fits-p fits-f, longest_block l)
-
-pub joined_below : (l : Layout) (f : Fields) → Within (largest l) f → joined l f < 2 ^ 24
-joined_below A f fits = omega arith
-joined_below B f fits = omega arith
-joined_below C f fits = omega arith
-joined_below D f fits = omega arith
-joined_below E f fits = omega arith
 
 -- the fields part the whole word
 pub joined_cut : (l : Layout) (w : ℕ) → w < 2 ^ 24 → joined l (cut l w) ≡ w
@@ -59,27 +50,24 @@ nothing_moved_is_preload_word l p w p-below w-below within =
     (λ none. cut_tells_word l w p w-below p-below (fields.0 none), λ same. fields.1 (ap (cut l) same))
 
 -- what a step leaves in the counter, by the fields that it is cut into again
-module _ (l : Layout) (preload count : ℕ) where
+module _ (k : Counter) where
+  abbrev l : Layout
+  l = k.layout
+
   abbrev p : Fields
-  p = cut l preload
+  p = preloaded k
 
   abbrev f : Fields
-  f = cut l count
+  f = counted k
 
   abbrev after : ℕ
-  after = (counted l preload count).count
+  after = (after_word k).count
 
   stepped_has_room : Within (largest l) (stepped p f)
-  stepped_has_room = stepped_fits (largest l) p f (cut_fits l preload) (cut_fits l count)
-
-  pub counted_below : after < 2 ^ 24
-  counted_below = joined_below l (stepped p f) stepped_has_room
+  stepped_has_room = stepped_fits (largest l) p f (cut_fits l k.preload) (cut_fits l k.count)
 
   pub counted_fields : cut l after ≡ stepped p f
   counted_fields = cut_joined l (stepped p f) stepped_has_room
-
-  pub counted_within : Within p f → Within p (cut l after)
-  counted_within within = rw counted_fields (stepped_within p f within)
 
   pub counted_goes_on : Within p f → ends_block f ≡ false → GoesOn p f (cut l after)
   counted_goes_on within inside = record {
@@ -96,6 +84,3 @@ module _ (l : Layout) (preload count : ℕ) where
     back = counted_back end;
     moved = rw (counted_back end) (nothing_moved_at_preload p);
   }
-
-  pub counted_is_preload : ends_block f ≡ true → preload < 2 ^ 24 → after ≡ preload
-  counted_is_preload end below = cut_tells_word l after preload counted_below below (counted_back end)

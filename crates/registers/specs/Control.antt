@@ -1,7 +1,10 @@
 -- The control word DCR: which bits say what.
-use Rattle.std.specs.Prelude.{ℕ, ◌/◌, ◌%◌, ◌^◌, Bool, true, false, cond, ◌&&◌, Some, None, Option, ◌==◌, nat_lt}
+use Rattle.std.specs.Prelude.{ℕ, ◌/◌, ◌%◌, ◌^◌, Bool, true, false, if◌then◌else◌, ◌&&◌, Some, None, Option, Result, ◌≡◌, ◌==◌, nat_lt}
+use Rattle.std.specs.Result.{MatchResult}
 use Rattle.memory.specs.declared.place.Space.{Space}
 use Rattle.memory.specs.declared.place.Space.TheVariants.{X, Y, P}
+use Rattle.memory.specs.declared.refusal.Refusal.{Refusal}
+use Rattle.memory.specs.declared.refusal.Refusal.TheVariants.{ReservedMode, ReservedShape, ReservedSpace}
 use Rattle.registers.specs.declared.control.Settings.{Settings}
 use Rattle.registers.specs.declared.control.Shape.{Shape}
 use Rattle.registers.specs.declared.control.Spaces.{Spaces}
@@ -50,31 +53,33 @@ source_space word = field 0 2 word
 -- the transfer mode of a number; 6 and 7 are reserved
 abbrev pub mode_of : ℕ → Option TransferMode
 mode_of n =
-    cond (n == 0) (Some Block)
-    (cond (n == 1) (Some Word)
-    (cond (n == 2) (Some Line)
-    (cond (n == 3) (Some BlockByEnable)
-    (cond (n == 4) (Some BlockKeepingEnable)
-    (cond (n == 5) (Some WordKeepingEnable) None)))))
+    if n == 0 then Some Block
+    else if n == 1 then Some Word
+    else if n == 2 then Some Line
+    else if n == 3 then Some BlockByEnable
+    else if n == 4 then Some BlockKeepingEnable
+    else if n == 5 then Some WordKeepingEnable
+    else None
 
 abbrev pub space_of : ℕ → Option Space
-space_of n = cond (n == 0) (Some X) (cond (n == 1) (Some Y) (cond (n == 2) (Some P) None))
+space_of n = if n == 0 then Some X else if n == 1 then Some Y else if n == 2 then Some P else None
 
 -- the update of a side by its code; 6 and 7 mean something only beside a side of three dimensions
 abbrev pub update_of : Bool → ℕ → Option Update
 update_of beside code =
-    cond (nat_lt code 4) (Some (TwoDimensional code))
-    (cond (code == 4) (Some Still)
-    (cond (code == 5) (Some Onward)
-    (cond (beside && code == 6) (Some (ThreeDimensional 0 1))
-    (cond (beside && code == 7) (Some (ThreeDimensional 2 3)) None))))
+    if nat_lt code 4 then Some (TwoDimensional code)
+    else if code == 4 then Some Still
+    else if code == 5 then Some Onward
+    else if beside && code == 6 then Some (ThreeDimensional 0 1)
+    else if beside && code == 7 then Some (ThreeDimensional 2 3)
+    else None
 
 -- A if neither side has an offset, else B
 abbrev pub flat_layout : ℕ → ℕ → Layout
-flat_layout source destination = cond (nat_lt 3 source && nat_lt 3 destination) A B
+flat_layout source destination = if nat_lt 3 source && nat_lt 3 destination then A else B
 
 abbrev pub cubic_layout : ℕ → Option Layout
-cubic_layout n = cond (n == 0) (Some C) (cond (n == 1) (Some D) (cond (n == 2) (Some E) None))
+cubic_layout n = if n == 0 then Some C else if n == 1 then Some D else if n == 2 then Some E else None
 
 abbrev pub shaped : Option Update → Option Update → Option Layout → Option Shape
 shaped None destination layout = None
@@ -94,10 +99,10 @@ abbrev pub cubic_shape : ℕ → Option Shape
 cubic_shape dam =
     let other = update_of true (field 3 3 dam) in
     let layout = cubic_layout (field 0 2 dam) in
-    cond (field 2 1 dam == 0) (shaped (Some (ThreeDimensional 0 1)) other layout) (shaped other (Some (ThreeDimensional 2 3)) layout)
+    if field 2 1 dam == 0 then shaped (Some (ThreeDimensional 0 1)) other layout else shaped other (Some (ThreeDimensional 2 3)) layout
 
 abbrev pub shape_of : ℕ → Option Shape
-shape_of word = cond (three_dimensional word) (cubic_shape (address_mode word)) (flat_shape (address_mode word))
+shape_of word = if three_dimensional word then cubic_shape (address_mode word) else flat_shape (address_mode word)
 
 abbrev pub spaced : Option Space → Option Space → Option Spaces
 spaced None destination = None
@@ -125,3 +130,16 @@ set_up word (Some m) (Some s) (Some p) = Some (record {
 -- the settings of a control word, unless something in it is reserved
 abbrev pub settings_of : ℕ → Option Settings
 settings_of word = set_up word (mode_of (mode_number word)) (shape_of word) (spaces_of word)
+
+-- what a control word with something reserved is refused with: the mode comes before the shape, and the shape before the spaces
+abbrev pub first_missing : Option TransferMode → Option Shape → Refusal
+first_missing None shape = ReservedMode
+first_missing (Some m) None = ReservedShape
+first_missing (Some m) (Some s) = ReservedSpace
+
+abbrev pub first_reserved : ℕ → Refusal
+first_reserved word = first_missing (mode_of (mode_number word)) (shape_of word)
+
+-- a conversion answers what a word gives, or the refusal if it gives nothing
+abbrev pub Gives : {T : Type 0} → Option T → Refusal → Result T Refusal → Type 0
+Gives given refusal result = MatchResult result (λ value. given ≡ Some value) (λ reason. (given ≡ None) × (reason ≡ refusal))

@@ -1,5 +1,6 @@
 -- The counter DCO: its fields by layout, the length of a block, the position in it, and the step after a word.
-use Rattle.std.specs.Prelude.{ℕ, ◌+◌, ◌-◌, ◌*◌, ◌^◌, ◌≤◌, Bool, cond, ◌&&◌, ◌==◌}
+use Rattle.std.specs.Prelude.{ℕ, ◌+◌, ◌-◌, ◌*◌, ◌^◌, ◌≤◌, Bool, if◌then◌else◌, ◌&&◌, ◌==◌}
+use Rattle.registers.specs.declared.counter.Counter.{Counter}
 use Rattle.registers.specs.declared.counter.Fields.{Fields}
 use Rattle.registers.specs.declared.counter.Layout.{Layout}
 use Rattle.registers.specs.declared.counter.Layout.TheVariants.{A, B, C, D, E}
@@ -64,7 +65,18 @@ ends_block count = ends_plane count && count.high == 0
 -- a field that is 0 returns to its preload, and the next one falls; all three return at the end of the block
 abbrev pub stepped : Fields → Fields → Fields
 stepped preload count =
-    cond (ends_block count) preload
-    (cond (ends_plane count) (fields (count.high - 1) preload.middle preload.low)
-    (cond (ends_line count) (fields count.high (count.middle - 1) preload.low)
-    (fields count.high count.middle (count.low - 1))))
+    if ends_block count then preload
+    else if ends_plane count then fields (count.high - 1) preload.middle preload.low
+    else if ends_line count then fields count.high (count.middle - 1) preload.low
+    else fields count.high count.middle (count.low - 1)
+
+-- the fields of what each block starts from, and of what is left of this one
+abbrev pub preloaded : Counter → Fields
+preloaded counter = cut counter.layout counter.preload
+
+abbrev pub counted : Counter → Fields
+counted counter = cut counter.layout counter.count
+
+-- the count is one of the block's
+abbrev pub InBlock : Counter → Type 0
+InBlock counter = Within (preloaded counter) (counted counter)

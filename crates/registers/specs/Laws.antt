@@ -1,19 +1,20 @@
 -- Laws of the counter, in words of its fields.
-use Rattle.std.specs.Prelude.{◌≡◌, ℕ, ◌+◌, ◌-◌, ◌^◌}
+use Rattle.std.specs.Prelude.{◌≡◌, ◌+◌, ◌-◌, ◌^◌}
 use Rattle.registers.specs.declared.counter.Counted.{Counted}
+use Rattle.registers.specs.declared.counter.Counter.{Counter}
 use Rattle.registers.specs.declared.counter.Fields.{Fields}
 use Rattle.registers.specs.declared.counter.Layout.{Layout}
-use Rattle.registers.specs.Counter.{cut, joined, words_left, position, ends_block, stepped}
+use Rattle.registers.specs.Counter.{cut, joined, words_left, position, ends_block, stepped, preloaded, counted}
 
 -- the largest fields that a layout has room for
 abbrev pub largest : Layout → Fields
 largest layout = cut layout (2 ^ 24 - 1)
 
--- the counter after a word, and whether that word ended the block
-abbrev pub counted : Layout → ℕ → ℕ → Counted
-counted layout preload count = record {
-  count = joined layout (stepped (cut layout preload) (cut layout count));
-  ended = ends_block (cut layout count);
+-- the count after a word, and whether that word ended the block
+abbrev pub after_word : Counter → Counted
+after_word counter = record {
+  count = joined counter.layout (stepped (preloaded counter) (counted counter));
+  ended = ends_block (counted counter);
 }
 
 -- after a word inside the block one word more has moved, and one less is left

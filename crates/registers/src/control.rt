@@ -1,10 +1,12 @@
 // The control word DCR of a channel, taken apart.
-ghost use Rattle.std.specs.Prelude.{◌≡◌, ◌^◌, ◌<◌};
-ghost use Rattle.registers.specs.Control.{field, enable, interrupt_enable, mode_number, mode_of, priority, continuous, request_source, three_dimensional, address_mode, space_of, update_of, flat_layout, cubic_layout, flat_shape, cubic_shape, shape_of, spaces_of, settings_of};
+ghost use Rattle.std.specs.Prelude.{◌≡◌, ◌^◌, ◌<◌, true, false};
+ghost use Rattle.memory.specs.declared.refusal.Refusal.TheVariants.{ReservedMode, ReservedShape, ReservedSpace};
+ghost use Rattle.registers.specs.Control.{field, enable, interrupt_enable, mode_number, mode_of, priority, continuous, request_source, space_of, update_of, flat_layout, cubic_layout, flat_shape, cubic_shape, shape_of, spaces_of, settings_of, first_reserved, Gives};
 
 use crate::counter::Layout;
 use crate::update::Update;
 use memory::place::Space;
+use memory::refusal::Refusal;
 
 // DTM: how many words a request moves, and whether DE stays 1 at a block's end.
 #[derive(Clone, Copy, PartialEq, Eq, Debug)]
@@ -60,6 +62,8 @@ pub(crate) fn field(at: u32, width: u32, word: u32) -> u32
     (word >> at) % (1 << width)
 }
 
+// The five readers below are one line each and differ only in the bits and the type that they read: a table of them would be no shorter.
+
 // DE: the channel takes requests.
 pub fn enabled(word: u32) -> bool
     ensures value { result ≡ enable word }
@@ -95,34 +99,45 @@ pub fn request_source(word: u32) -> u8
     field(11, 5, word) as u8
 }
 
-impl TransferMode {
-    // None if DTM holds a reserved number.
-    pub fn decode(word: u32) -> Option<TransferMode>
-        ensures value { result ≡ mode_of (mode_number word) }
-    {
+// DTM.
+impl TryFrom<u32> for TransferMode {
+    type Error = Refusal;
+
+    ghost try_from_gives = { λ word r. Gives (mode_of (mode_number word)) ReservedMode r };
+
+    fn try_from(word: u32) -> Result<TransferMode, Refusal> {
         match field(19, 3, word) {
-            0 => Some(TransferMode::Block),
-            1 => Some(TransferMode::Word),
-            2 => Some(TransferMode::Line),
-            3 => Some(TransferMode::BlockByEnable),
-            4 => Some(TransferMode::BlockKeepingEnable),
-            5 => Some(TransferMode::WordKeepingEnable),
-            _ => None,
+            0 => Ok(TransferMode::Block),
+            1 => Ok(TransferMode::Word),
+            2 => Ok(TransferMode::Line),
+            3 => Ok(TransferMode::BlockByEnable),
+            4 => Ok(TransferMode::BlockKeepingEnable),
+            5 => Ok(TransferMode::WordKeepingEnable),
+            _ => Err(Refusal::ReservedMode),
         }
     }
 }
 
-// The update of a side by its code. The codes of three dimensions are reserved unless the other side has three.
-fn update_of(beside: bool, code: u32) -> Option<Update>
-    ensures value { result ≡ update_of beside code }
+// The update of a side by its code. The codes of three dimensions are reserved.
+fn flat_update(code: u32) -> Result<Update, Refusal>
+    ensures value { Gives (update_of false code) ReservedShape result }
 {
     match code {
-        0..=3 => Some(Update::TwoDimensional(code as u8)),
-        4 => Some(Update::Still),
-        5 => Some(Update::Onward),
-        6 if beside => Some(Update::ThreeDimensional(0, 1)),
-        7 if beside => Some(Update::ThreeDimensional(2, 3)),
-        _ => None,
+        0..=3 => Ok(Update::TwoDimensional(code as u8)),
+        4 => Ok(Update::Still),
+        5 => Ok(Update::Onward),
+        _ => Err(Refusal::ReservedShape),
+    }
+}
+
+// The same beside a side of three dimensions, where those codes mean something.
+fn cubic_update(code: u32) -> Result<Update, Refusal>
+    ensures value { Gives (update_of true code) ReservedShape result }
+{
+    match code {
+        6 => Ok(Update::ThreeDimensional(0, 1)),
+        7 => Ok(Update::ThreeDimensional(2, 3)),
+        _ => flat_update(code),
     }
 }
 
@@ -130,28 +145,32 @@ fn update_of(beside: bool, code: u32) -> Option<Update>
 fn flat_layout(source: u32, destination: u32) -> Layout
     ensures value { result ≡ flat_layout source destination }
 {
-    match source {
-        4.. if destination > 3 => Layout::A,
-        _ => Layout::B,
+    if source > 3 && destination > 3 {
+        Layout::A
+    } else {
+        Layout::B
     }
 }
 
-fn cubic_layout(number: u32) -> Option<Layout>
-    ensures value { result ≡ cubic_layout number }
+// No TryFrom of a layout: this number names three of the five.
+fn cubic_layout(number: u32) -> Result<Layout, Refusal>
+    ensures value { Gives (cubic_layout number) ReservedShape result }
 {
     match number {
-        0 => Some(Layout::C),
-        1 => Some(Layout::D),
-        2 => Some(Layout::E),
-        _ => None,
+        0 => Ok(Layout::C),
+        1 => Ok(Layout::D),
+        2 => Ok(Layout::E),
+        _ => Err(Refusal::ReservedShape),
     }
 }
 
-impl Shape {
-    // None if D3D and DAM hold something reserved.
-    pub fn decode(word: u32) -> Option<Shape>
-        ensures value { result ≡ shape_of word }
-    {
+// D3D and DAM.
+impl TryFrom<u32> for Shape {
+    type Error = Refusal;
+
+    ghost try_from_gives = { λ word r. Gives (shape_of word) ReservedShape r };
+
+    fn try_from(word: u32) -> Result<Shape, Refusal> {
         let dam = field(4, 6, word);
         if field(10, 1, word) == 1 {
             Shape::cubic(dam)
@@ -159,34 +178,36 @@ impl Shape {
             Shape::flat(dam)
         }
     }
+}
 
+impl Shape {
     // D3D 0: a code for each side.
-    fn flat(dam: u32) -> Option<Shape>
-        ensures value { result ≡ flat_shape dam }
+    fn flat(dam: u32) -> Result<Shape, Refusal>
+        ensures value { Gives (flat_shape dam) ReservedShape result }
     {
         let from = field(0, 3, dam);
         let to = field(3, 3, dam);
-        Some(Shape {
-            source: update_of(false, from)?,
-            destination: update_of(false, to)?,
+        Ok(Shape {
+            source: flat_update(from)?,
+            destination: flat_update(to)?,
             layout: flat_layout(from, to),
         })
     }
 
     // D3D 1: which side has three dimensions, the code of the other, and the layout.
-    fn cubic(dam: u32) -> Option<Shape>
-        ensures value { result ≡ cubic_shape dam }
+    fn cubic(dam: u32) -> Result<Shape, Refusal>
+        ensures value { Gives (cubic_shape dam) ReservedShape result }
     {
-        let other = update_of(true, field(3, 3, dam))?;
+        let other = cubic_update(field(3, 3, dam))?;
         let layout = cubic_layout(field(0, 2, dam))?;
         if field(2, 1, dam) == 0 {
-            Some(Shape {
+            Ok(Shape {
                 source: Update::ThreeDimensional(0, 1),
                 destination: other,
                 layout,
             })
         } else {
-            Some(Shape {
+            Ok(Shape {
                 source: other,
                 destination: Update::ThreeDimensional(2, 3),
                 layout,
@@ -195,43 +216,48 @@ impl Shape {
     }
 }
 
-fn space_of(number: u32) -> Option<Space>
-    ensures value { result ≡ space_of number }
+// No TryFrom of a space, which is another crate's type.
+fn space_of(number: u32) -> Result<Space, Refusal>
+    ensures value { Gives (space_of number) ReservedSpace result }
 {
     match number {
-        0 => Some(Space::X),
-        1 => Some(Space::Y),
-        2 => Some(Space::P),
-        _ => None,
+        0 => Ok(Space::X),
+        1 => Ok(Space::Y),
+        2 => Ok(Space::P),
+        _ => Err(Refusal::ReservedSpace),
     }
 }
 
-impl Spaces {
-    // None if DSS or DDS holds the reserved number.
-    pub fn decode(word: u32) -> Option<Spaces>
-        ensures value { result ≡ spaces_of word }
-    {
-        Some(Spaces {
+// DSS and DDS.
+impl TryFrom<u32> for Spaces {
+    type Error = Refusal;
+
+    ghost try_from_gives = { λ word r. Gives (spaces_of word) ReservedSpace r };
+
+    fn try_from(word: u32) -> Result<Spaces, Refusal> {
+        Ok(Spaces {
             source: space_of(field(0, 2, word))?,
             destination: space_of(field(2, 2, word))?,
         })
     }
 }
 
-impl Settings {
-    // None if any part of the word is reserved.
-    pub fn decode(word: u32) -> Option<Settings>
-        ensures value { result ≡ settings_of word }
-    {
-        Some(Settings {
+// The whole control word; it is refused by the first of mode, shape and spaces that is reserved.
+impl TryFrom<u32> for Settings {
+    type Error = Refusal;
+
+    ghost try_from_gives = { λ word r. Gives (settings_of word) (first_reserved word) r };
+
+    fn try_from(word: u32) -> Result<Settings, Refusal> {
+        Ok(Settings {
             enabled: enabled(word),
             interrupts: interrupts(word),
-            mode: TransferMode::decode(word)?,
+            mode: TransferMode::try_from(word)?,
             priority: priority(word),
             continuous: continuous(word),
             request: request_source(word),
-            shape: Shape::decode(word)?,
-            spaces: Spaces::decode(word)?,
+            shape: Shape::try_from(word)?,
+            spaces: Spaces::try_from(word)?,
         })
     }
 }

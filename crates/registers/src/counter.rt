@@ -1,7 +1,7 @@
 // The counter DCO: its fields, the block that it counts, and what it holds after a word.
-ghost use Rattle.std.specs.Prelude.{◌≡◌, ◌+◌, ◌^◌, ◌<◌, ◌≤◌, true, false, ◌↔◌, Decides};
-ghost use Rattle.registers.specs.Counter.{cut, joined, line_length, block_length, words_left, position, Within, ends_line, ends_plane, ends_block, stepped};
-ghost use Rattle.registers.specs.Laws.{largest, counted, GoesOn, StartsAgain};
+ghost use Rattle.std.specs.Prelude.{◌≡◌, ◌+◌, ◌^◌, ◌<◌, ◌≤◌, true, false, ◌↔◌};
+ghost use Rattle.registers.specs.Counter.{cut, joined, line_length, block_length, words_left, position, Within, ends_line, ends_plane, ends_block, stepped, preloaded, counted, InBlock};
+ghost use Rattle.registers.specs.Laws.{largest, after_word, GoesOn, StartsAgain};
 
 use crate::control::field;
 
@@ -23,7 +23,15 @@ pub struct Fields {
     pub low: u32,
 }
 
-// The counter after a word, and whether that word ended the block.
+// What is left of a block, and what each block starts from. The count may be of another block: see `within`.
+#[derive(Clone, Copy, PartialEq, Eq, Debug)]
+pub struct Counter {
+    pub layout: Layout,
+    pub preload: u32,
+    pub count: u32,
+}
+
+// The count after a word, and whether that word ended the block: both are there after each word, so that no Option says either.
 #[derive(Clone, Copy, PartialEq, Eq, Debug)]
 pub struct Counted {
     pub count: u32,
@@ -125,53 +133,72 @@ impl Layout {
         let full = self.cut(preload);
         (full.low + 1) * (full.middle + 1) * (full.high + 1)
     }
+}
+
+impl Counter {
+    fn preloaded(self) -> Fields
+        ensures value { result ≡ preloaded self }
+        ensures fits { Within (largest self.layout) result }
+    {
+        self.layout.cut(self.preload)
+    }
+
+    fn counted(self) -> Fields
+        ensures value { result ≡ counted self }
+        ensures fits { Within (largest self.layout) result }
+    {
+        self.layout.cut(self.count)
+    }
 
     // The words of the block that are still to move.
-    pub fn words_left(self, preload: u32, count: u32) -> u32
-        ensures value { result ≡ words_left (cut self preload) (cut self count) }
+    #[tactic(auto, using(crate::proofs::Counting::words_left_within_block))]
+    pub fn words_left(self) -> u32
+        ensures value { result ≡ words_left (preloaded self) (counted self) }
         ensures some_word { 0 < result }
-        ensures at_most_the_block { Within (cut self preload) (cut self count) → result ≤ block_length (cut self preload) }
+        ensures at_most_the_block { InBlock self → result ≤ block_length (preloaded self) }
     {
-        let full = self.cut(preload);
-        let now = self.cut(count);
+        let full = self.preloaded();
+        let now = self.counted();
         (now.high * (full.middle + 1) + now.middle) * (full.low + 1) + now.low + 1
     }
 
     // The words of the block that have moved.
-    pub fn position(self, preload: u32, count: u32) -> u32
-        ensures value { result ≡ position (cut self preload) (cut self count) }
-        ensures moved_and_left_make_the_block { Within (cut self preload) (cut self count) → result + words_left (cut self preload) (cut self count) ≡ block_length (cut self preload) }
-        ensures zero_exactly_at_the_preload { Within (cut self preload) (cut self count) → (result ≡ 0) ↔ (cut self count ≡ cut self preload) }
-        ensures zero_exactly_if_equal { preload < 2 ^ 24 → count < 2 ^ 24 → Within (cut self preload) (cut self count) → (result ≡ 0) ↔ (count ≡ preload) }
+    #[tactic(auto, using(crate::proofs::Counting::nothing_moved_is_preload, crate::proofs::Layouts::nothing_moved_is_preload_word))]
+    pub fn position(self) -> u32
+        ensures value { result ≡ position (preloaded self) (counted self) }
+        ensures moved_and_left_make_the_block { InBlock self → result + words_left (preloaded self) (counted self) ≡ block_length (preloaded self) }
+        ensures zero_exactly_at_the_preload { InBlock self → (result ≡ 0) ↔ (counted self ≡ preloaded self) }
+        ensures zero_exactly_if_equal { self.preload < 2 ^ 24 → self.count < 2 ^ 24 → InBlock self → (result ≡ 0) ↔ (self.count ≡ self.preload) }
     {
-        self.block_length(preload)
-            .saturating_sub(self.words_left(preload, count))
+        self.layout
+            .block_length(self.preload)
+            .saturating_sub(self.words_left())
     }
 
     // Whether no field of the count exceeds its preload.
-    pub fn within(self, preload: u32, count: u32) -> bool
-        ensures value { Decides result (Within (cut self preload) (cut self count)) }
+    pub fn within(self) -> bool
+        ensures value { (result ≡ true) ↔ InBlock self }
     {
-        let full = self.cut(preload);
-        let now = self.cut(count);
+        let full = self.preloaded();
+        let now = self.counted();
         now.high <= full.high && now.middle <= full.middle && now.low <= full.low
     }
 
-    // The counter after a word.
-    pub fn step(self, preload: u32, count: u32) -> Counted
-        ensures value { result ≡ counted self preload count }
+    // The count after a word.
+    pub fn step(self) -> Counted
+        ensures value { result ≡ after_word self }
         ensures below { result.count < 2 ^ 24 }
-        ensures fields_are_stepped { cut self result.count ≡ stepped (cut self preload) (cut self count) }
-        ensures stays_within { Within (cut self preload) (cut self count) → Within (cut self preload) (cut self result.count) }
-        ensures goes_on { Within (cut self preload) (cut self count) → result.ended ≡ false → GoesOn (cut self preload) (cut self count) (cut self result.count) }
-        ensures starts_again { result.ended ≡ true → StartsAgain (cut self preload) (cut self count) (cut self result.count) }
-        ensures ends_exactly_at_the_last_word { (result.ended ≡ true) ↔ (words_left (cut self preload) (cut self count) ≡ 1) }
-        ensures is_the_preload_again { result.ended ≡ true → preload < 2 ^ 24 → result.count ≡ preload }
+        ensures fields_are_stepped { cut self.layout result.count ≡ stepped (preloaded self) (counted self) }
+        ensures stays_within { InBlock self → Within (preloaded self) (cut self.layout result.count) }
+        ensures goes_on { InBlock self → result.ended ≡ false → GoesOn (preloaded self) (counted self) (cut self.layout result.count) }
+        ensures starts_again { result.ended ≡ true → StartsAgain (preloaded self) (counted self) (cut self.layout result.count) }
+        ensures ends_exactly_at_the_last_word { (result.ended ≡ true) ↔ (words_left (preloaded self) (counted self) ≡ 1) }
+        ensures is_the_preload_again { result.ended ≡ true → self.preload < 2 ^ 24 → result.count ≡ self.preload }
     {
-        let now = self.cut(count);
-        let after = now.stepped(self.cut(preload));
+        let now = self.counted();
+        let after = now.stepped(self.preloaded());
         Counted {
-            count: self.joined(after),
+            count: self.layout.joined(after),
             ended: now.ends_block(),
         }
     }

@@ -1,30 +1,34 @@
 // Control words, counters and addresses by example.
 use crate::control::{Settings, Shape, Spaces, TransferMode};
-use crate::counter::Layout;
+use crate::counter::{Counter, Layout};
 use crate::update::Update;
 use memory::place::Space;
+use memory::refusal::Refusal;
 
 #[test]
 fn reserved_parts_are_refused(rt: HostRuntime) {
     assert_eq!(rt;
-        Shape::decode(0x00_0060),
-        None,
+        Shape::try_from(0x00_0060),
+        Err(Refusal::ReservedShape),
         "a code of three dimensions alone"
     );
     assert_eq!(rt;
-        Shape::decode(0x00_0430),
-        None,
+        Shape::try_from(0x00_0430),
+        Err(Refusal::ReservedShape),
         "the fourth layout of three dimensions"
     );
-    assert_eq!(rt; TransferMode::decode(0x30_0063), None);
-    assert_eq!(rt; Spaces::decode(0x00_000C), None);
-    assert_eq!(rt; Settings::decode(0x30_0000), None);
+    assert_eq!(rt;
+        TransferMode::try_from(0x30_0063),
+        Err(Refusal::ReservedMode)
+    );
+    assert_eq!(rt; Spaces::try_from(0x00_000C), Err(Refusal::ReservedSpace));
+    assert_eq!(rt; Settings::try_from(0x30_0000), Err(Refusal::ReservedMode));
     let cubic = Shape {
         source: Update::TwoDimensional(0),
         destination: Update::ThreeDimensional(2, 3),
         layout: Layout::E,
     };
-    assert_eq!(rt; Shape::decode(0x00_0460), Some(cubic));
+    assert_eq!(rt; Shape::try_from(0x00_0460), Ok(cubic));
 }
 
 #[test]
@@ -46,7 +50,15 @@ fn a_whole_control_word(rt: HostRuntime) {
             destination: Space::X,
         },
     };
-    assert_eq!(rt; Settings::decode(0x9C_5280), Some(settings));
+    assert_eq!(rt; Settings::try_from(0x9C_5280), Ok(settings));
+}
+
+fn counter(layout: Layout, preload: u32, count: u32) -> Counter {
+    Counter {
+        layout,
+        preload,
+        count,
+    }
 }
 
 #[test]
@@ -58,9 +70,9 @@ fn blocks_by_layout(rt: HostRuntime) {
         2,
         "middle and low are two counts"
     );
-    assert_eq!(rt; Layout::C.position(0x00_1042, 0x00_1042), 0);
+    assert_eq!(rt; counter(Layout::C, 0x00_1042, 0x00_1042).position(), 0);
     assert_eq!(rt;
-        Layout::C.step(0x00_1042, 0x00_1000).count,
+        counter(Layout::C, 0x00_1042, 0x00_1000).step().count,
         0x00_0042,
         "the end of a plane"
     );
@@ -73,7 +85,7 @@ fn after(words: u8, update: Update, layout: Layout, preload: u32, from: u32) -> 
     let mut count = preload;
     for _ in 0..words {
         address = update.next(address, offsets, layout.cut(count));
-        count = layout.step(preload, count).count;
+        count = counter(layout, preload, count).step().count;
     }
     address
 }

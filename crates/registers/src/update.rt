@@ -19,10 +19,7 @@ pub enum Update {
 fn offset(offsets: [u32; 4], number: u8) -> u32
     ensures value { result ≡ slice_index offsets number }
 {
-    match offsets.get(number as usize) {
-        Some(offset) => *offset,
-        None => 0,
-    }
+    offsets.get(usize::from(number)).copied().unwrap_or(0)
 }
 
 impl Update {
