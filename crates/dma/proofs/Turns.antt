@@ -1,8 +1,9 @@
 -- The channel that arbitration picks is the one that its laws ask for.
-use Rattle.std.proofs.Common.{◌≡◌, ℕ, zero, suc, ◌+◌, ◌%◌, ◌<◌, ◌≤◌, Bool, true, false, cond, ◌&&◌, ◌⊎◌, get_or, Some, None, Option, sym, refl, ap, ◌∙◌, subst, inl, inr, arith}
-use Rattle.std.proofs.lemmas.Bool.{and_parts, and_from, eqb-true, eq-eqb, both_ways, cases_lt, cases_Bool, cond-true, cond-false}
+use Rattle.std.proofs.Common.{◌≡◌, ℕ, zero, suc, ◌+◌, ◌%◌, ◌<◌, ◌≤◌, Bool, true, false, cond, ◌&&◌, ◌⊎◌, length, List, [], ◌∷◌, Some, None, Option, unwrap_or, sym, refl, ap, ◌∙◌, subst, inl, inr, arith}
+use Rattle.std.proofs.lemmas.Bool.{cond_both, and_parts, and_from, eqb-true, eq-eqb, both_ways, cases_lt, cases_Bool, cond-true, cond-false}
+use Rattle.std.specs.List.{find}
 use Rattle.dma.specs.declared.arbitration.Contest.{Contest}
-use Rattle.dma.specs.Arbitration.{competes, any_competes, upward, served_at, winner}
+use Rattle.dma.specs.Arbitration.{contender_at, competes, any_competes, upward, served_at, winner}
 use Rattle.dma.specs.ArbitrationLaws.{Waits, priority_of, remembered, distance, GoesOn, Highest, WellMade, Wins, Arbitrates}
 use Rattle.dma.proofs.Contests.{one_competes, none_competes}
 
@@ -53,7 +54,7 @@ module _ (k : Contest) (priority : ℕ) where
 -- what a priority serves whose remembered channel is `last`
 module _ (k : Contest) (priority last : ℕ) (small : last < 6) where
   abbrev goes_on : Bool
-  goes_on = competes k priority last && get_or k.continuous last false
+  goes_on = competes k priority last && (contender_at k last).continuous
 
   record Serves (w : ℕ) : Type 0 where
     below_6 : w < 6
@@ -91,9 +92,9 @@ module _ (k : Contest) (priority last : ℕ) (small : last < 6) where
   turn false idle = found_is_served idle _ (upward_finds k priority 6 ((last + 1) % 6) (omega arith))
 
 module _ (k : Contest) where
-  idle_priority : (priority c : ℕ) → any_competes k priority ≡ false → c < 6 → competes k priority c ≡ false
-  idle_priority priority c idle h =
-      elim (cases_Bool (competes k priority c)) [ inl is ↦ absurd (both_ways _ idle (one_competes k priority c h is)) | inr is-not ↦ is-not ]
+  idle_priority : (priority c : ℕ) → any_competes k priority ≡ false → competes k priority c ≡ false
+  idle_priority priority c idle =
+      elim (cases_Bool (competes k priority c)) [ inl is ↦ absurd (both_ways _ idle (one_competes k priority c is)) | inr is-not ↦ is-not ]
 
   -- what the priorities from this one downward serve
   abbrev falls : ℕ → Option ℕ
@@ -124,34 +125,38 @@ module _ (k : Contest) where
         | inr under ↦ let here : q ≡ suc priority = omega arith in ap (any_competes k) here ∙ idle
       ]
 
-  highest_from : (priority : ℕ) → priority < 4 → IdleAbove priority → (top : ℕ) × Highest k top
-  highest_from zero h above = (0, record { a_priority = h; idle_above = above; else_lowest = λ lt. absurd (omega arith) })
-  highest_from (suc priority) h above = go (any_competes k (suc priority)) refl (highest_from priority (omega arith))
-    where
-      go : (b : Bool) → any_competes k (suc priority) ≡ b → (IdleAbove priority → (top : ℕ) × Highest k top) → (top : ℕ) × Highest k top
-      go true some lower = (suc priority, record { a_priority = h; idle_above = above; else_lowest = λ _. some })
-      go false idle lower = lower (one_more_idle priority idle above)
+  -- the first of the priorities from this one downward to 1 at which a channel competes
+  abbrev down_from : ℕ → List ℕ
+  down_from zero = []
+  down_from (suc priority) = suc priority ∷ down_from priority
 
-  highest : (top : ℕ) × Highest k top
-  highest = highest_from 3 (omega arith) (λ q lt h. absurd (omega arith))
+  found_from : (priority : ℕ) → priority < 4 → IdleAbove priority → Highest k (unwrap_or (find (any_competes k) (down_from priority)) 0)
+  found_from zero h above = record { a_priority = h; idle_above = above; else_lowest = λ lt. absurd (omega arith) }
+  found_from (suc priority) h above =
+      cond_both (any_competes k (suc priority)) (Some (suc priority)) (find (any_competes k) (down_from priority)) (λ o. Highest k (unwrap_or o 0))
+      (λ some. record { a_priority = h; idle_above = above; else_lowest = λ _. some })
+      (λ idle. found_from priority (omega arith) (one_more_idle priority idle above))
+
+  pub highest_found : Highest k (unwrap_or (find (any_competes k) (3 ∷ 2 ∷ 1 ∷ [])) 0)
+  highest_found = found_from 3 (omega arith) (λ q lt h. absurd (omega arith))
 
   waiting_competes : (c : ℕ) → Waits k c → competes k (priority_of k c) c ≡ true
   waiting_competes c waits = and_from _ _ waits.words_due (eq-eqb _ _ refl)
 
-module _ (k : Contest) (well : WellMade k) (top : ℕ) (is : Highest k top) where
+module _ (k : Contest) (six : length k.contenders ≡ 6) (well : WellMade k) (top : ℕ) (is : Highest k top) where
   small : remembered k top < 6
   small = well.six_channels top is.a_priority
 
   waiting_is_not_above : (c : ℕ) → Waits k c → priority_of k c ≤ top
   waiting_is_not_above c waits =
       elim (cases_lt top (priority_of k c)) [
-        | inl over ↦ absurd (both_ways _ (idle_priority k _ c (is.idle_above _ over (well.four_priorities c waits.a_channel)) waits.a_channel) (waiting_competes k c waits))
+        | inl over ↦ absurd (both_ways _ (idle_priority k _ c (is.idle_above _ over (well.four_priorities c waits.a_channel))) (waiting_competes k c waits))
         | inr under ↦ under
       ]
 
   nobody_waits : ((c : ℕ) → c < 6 → competes k top c ≡ false) → (c : ℕ) → Waits k c → ⊥
   nobody_waits none c waits =
-      let lowest : top ≤ 0 = elim (cases_lt 0 top) [ inl over ↦ absurd (both_ways _ (none_competes k top none) (is.else_lowest over)) | inr under ↦ under ] in
+      let lowest : top ≤ 0 = elim (cases_lt 0 top) [ inl over ↦ absurd (both_ways _ (none_competes k top six none) (is.else_lowest over)) | inr under ↦ under ] in
       let not-above = waiting_is_not_above c waits in
       let here : priority_of k c ≡ top = omega arith in
       both_ways _ (none c waits.a_channel) (subst (λ (p : ℕ). competes k p c ≡ true) here (waiting_competes k c waits))
@@ -192,10 +197,10 @@ module _ (k : Contest) (well : WellMade k) (top : ℕ) (is : Highest k top) wher
     rightly = λ v e. let same : w ≡ v = cc in subst (Wins k) same (served_wins w served);
   }
 
-pub winner_arbitrates : (k : Contest) (r : Option ℕ) → r ≡ winner k → WellMade k → Arbitrates k r
-winner_arbitrates k r is well =
-    let top = (highest k).0 in
-    let high = (highest k).1 in
-    let low = small k well top high in
+pub winner_arbitrates : (k : Contest) → length k.contenders ≡ 6 → (r : Option ℕ) → r ≡ winner k → WellMade k → Arbitrates k r
+winner_arbitrates k six r is well =
+    let top = unwrap_or (find (any_competes k) (3 ∷ 2 ∷ 1 ∷ [])) 0 in
+    let high = highest_found k in
+    let low = small k six well top high in
     let served = turn k top (remembered k top) low (goes_on k top (remembered k top) low) refl in
-    served_arbitrates k well top high r (subst (Served k top (remembered k top) low) (sym (is ∙ highest_serves_the_winner k top high)) served)
+    served_arbitrates k six well top high r (subst (Served k top (remembered k top) low) (sym (is ∙ highest_serves_the_winner k top high)) served)

@@ -1,13 +1,14 @@
 // Reading the registers.
 ghost use Rattle.std.specs.Prelude.{◌≡◌};
 ghost use Rattle.dma.specs.Banks.{state_of};
-ghost use Rattle.dma.specs.Reads.{contest, next_served, status_of, status, get_answer};
+ghost use Rattle.dma.specs.Reads.{contender, contest, next_served, status_of, status, get_answer};
 ghost use Rattle.dma.specs.Sets.{unknown};
 
-use crate::arbitration::Contest;
+use crate::arbitration::{Contender, Contest};
 use crate::bank::Bank;
 use crate::bank::raising::mask;
 use crate::register::Register;
+use crate::row::Row;
 use memory::refusal::Refusal;
 
 impl Register {
@@ -35,45 +36,27 @@ fn status_of(done: u8, next: Option<u8>) -> u32
     }
 }
 
+impl Row {
+    // What arbitration looks at of one channel.
+    fn contender(&self) -> Contender
+        ensures value { result ≡ contender self.now }
+    {
+        let settings = self.settings();
+        Contender {
+            due: self.due > 0,
+            priority: settings.priority,
+            continuous: settings.continuous,
+        }
+    }
+}
+
 impl Bank {
     // What arbitration looks at.
     pub fn contest(&self) -> Contest
         ensures value { result ≡ contest (state_of self.now) }
     {
-        let rows = self.rows;
-        let s = [
-            rows[0].settings(),
-            rows[1].settings(),
-            rows[2].settings(),
-            rows[3].settings(),
-            rows[4].settings(),
-            rows[5].settings(),
-        ];
         Contest {
-            due: [
-                rows[0].due > 0,
-                rows[1].due > 0,
-                rows[2].due > 0,
-                rows[3].due > 0,
-                rows[4].due > 0,
-                rows[5].due > 0,
-            ],
-            priority: [
-                s[0].priority,
-                s[1].priority,
-                s[2].priority,
-                s[3].priority,
-                s[4].priority,
-                s[5].priority,
-            ],
-            continuous: [
-                s[0].continuous,
-                s[1].continuous,
-                s[2].continuous,
-                s[3].continuous,
-                s[4].continuous,
-                s[5].continuous,
-            ],
+            contenders: self.rows.map(|row| row.contender()),
             last: self.last,
         }
     }
