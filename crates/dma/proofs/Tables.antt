@@ -33,18 +33,18 @@ module _ {T : Type 0} (P : T → Type 0) where
       (cases_lt k (length xs))
 
 -- a loop that maps a table in place: one more entry, and all of them
-module _ {T : Type 0} (f : T → T) (xs ys : List T) (i : ℕ) (long : length xs ≡ 6) (sofar : ys ≡ map f (take i xs) ++ drop i xs) where
-  pub map_more : (d n : T) → i < 6 → n ≡ f (get_or ys i d) → (i + 1 ≤ 6) × (length xs ≡ 6) × (set ys i n ≡ map f (take (i + 1) xs) ++ drop (i + 1) xs)
+module _ {T : Type 0} (f : T → T) (xs ys : List T) (i : ℕ) (six : length xs ≡ 6) (so_far : ys ≡ map f (take i xs) ++ drop i xs) where
+  pub map_more : (d n : T) → i < 6 → n ≡ f (get_or ys i d) → set ys i n ≡ map f (take (i + 1) xs) ++ drop (i + 1) xs
   map_more d n h e =
       let within : i < length xs = omega arith in
-      let same_length : length ys ≡ length xs = ap length sofar ∙ simp (length-append, length-map, length-take, length-drop) (omega arith) in
+      let same_length : length ys ≡ length xs = ap length so_far ∙ simp (length-append, length-map, length-take, length-drop) (omega arith) in
       let inside : i < length ys = omega arith in
-      (omega arith, long, ap (set ys i) e ∙ map_over_more f xs ys i (get_or ys i d) within sofar (get_or_default ys i d (get_or ys i d) inside))
+      ap (set ys i) e ∙ map_over_more f xs ys i (get_or ys i d) within so_far (get_or_default ys i d (get_or ys i d) inside)
 
   pub map_all : 6 ≤ i → ys ≡ map f xs
   map_all h =
       let over : length xs ≤ i = omega arith in
-      sofar ∙ (λ k. map f (take_all i xs over k) ++ drop_all i xs over k) ∙ append-nil (map f xs)
+      so_far ∙ (λ k. map f (take_all i xs over k) ++ drop_all i xs over k) ∙ append-nil (map f xs)
 
 -- a list that is f of another, place by place
 pub mapped : {A B : Type 0} (f : A → B) (xs : List A) (ys : List B) → length ys ≡ length xs → ((i : ℕ) (d : A) (e : B) → i < length xs → get_or ys i e ≡ f (get_or xs i d)) → ys ≡ map f xs

@@ -1,5 +1,5 @@
 -- What a get of a register answers.
-use Rattle.std.specs.Prelude.{ℕ, ◌+◌, ◌*◌, ◌^◌, cond, not, map, Some, None, Ok, Err, Option, Result, nat_lt, slice_index}
+use Rattle.std.specs.Prelude.{ℕ, ◌+◌, ◌*◌, ◌^◌, if◌then◌else◌, not, map, Some, None, Ok, Err, Option, Result, nat_lt, slice_index}
 use Rattle.memory.specs.declared.refusal.Refusal.{Refusal}
 use Rattle.memory.specs.declared.refusal.Refusal.TheVariants.{NoSuchRegister}
 use Rattle.dma.specs.declared.arbitration.Contender.{Contender}
@@ -45,4 +45,4 @@ held s =
     ]
 
 abbrev pub get_answer : State → Register → Result ℕ Refusal
-get_answer s register = cond (unknown register) (Err NoSuchRegister) (Ok (held s register))
+get_answer s register = if unknown register then Err NoSuchRegister else Ok (held s register)

@@ -30,10 +30,7 @@ impl Register {
 fn status_of(done: u8, next: Option<u8>) -> u32
     ensures value { result ≡ status_of done next }
 {
-    match next {
-        Some(next) => u32::from(done) + 0x100 + u32::from(next) * 0x200,
-        None => u32::from(done),
-    }
+    u32::from(done) + next.map_or(0, |next| 0x100 + u32::from(next) * 0x200)
 }
 
 impl Row {
@@ -72,15 +69,7 @@ impl Bank {
     fn status(&self) -> u32
         ensures value { result ≡ status (state_of self.now) }
     {
-        let rows = self.rows;
-        let done = mask([
-            !rows[0].active,
-            !rows[1].active,
-            !rows[2].active,
-            !rows[3].active,
-            !rows[4].active,
-            !rows[5].active,
-        ]);
+        let done = mask(self.rows.map(|row| !row.active));
         status_of(done, self.next())
     }
 
