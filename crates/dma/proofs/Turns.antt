@@ -1,7 +1,6 @@
 -- The channel that arbitration picks is the one that its laws ask for.
-use Rattle.std.proofs.Common.{◌≡◌, ℕ, zero, suc, ◌+◌, ◌%◌, ◌<◌, ◌≤◌, Bool, true, false, cond, ◌&&◌, ◌⊎◌, length, List, [], ◌∷◌, Some, None, Option, unwrap_or, sym, refl, ap, ◌∙◌, subst, inl, inr, arith}
-use Rattle.std.proofs.lemmas.Bool.{cond_both, and_parts, and_from, eqb-true, eq-eqb, both_ways, cases_lt, cases_Bool, cond-true, cond-false}
-use Rattle.std.specs.List.{find}
+use Rattle.std.proofs.Common.{◌≡◌, ℕ, zero, suc, ◌+◌, ◌%◌, ◌<◌, ◌≤◌, Bool, true, false, cond, ◌&&◌, length, Some, None, Option, sym, refl, ap, ◌∙◌, subst, inl, inr, arith}
+use Rattle.std.proofs.lemmas.Bool.{cond_both, and_parts, and_from, eqb-true, eq-eqb, both_ways, cases_Bool}
 use Rattle.dma.specs.declared.arbitration.Contest.{Contest}
 use Rattle.dma.specs.Arbitration.{contender_at, competes, any_competes, upward, served_at, winner}
 use Rattle.dma.specs.ArbitrationLaws.{Waits, priority_of, remembered, distance, GoesOn, Highest, WellMade, Wins, Arbitrates}
@@ -36,20 +35,22 @@ module _ (k : Contest) (priority : ℕ) where
       let same : (first + suc i) % 6 ≡ ((first + 1) % 6 + i) % 6 = omega arith in
       ap (competes k priority) same ∙ rest i (omega arith)
 
+  one_step_on : (n first : ℕ) → first < 6 → competes k priority first ≡ false → (r : Option ℕ) → Found n ((first + 1) % 6) r → Found (suc n) first r
+  one_step_on n first h is None rest = one_more_in_vain n first h is rest
+  one_step_on n first h is (Some w) rest = record {
+    steps = suc rest.steps;
+    within = let lt = rest.within in omega arith;
+    there = let at = rest.there in omega arith;
+    is_one = rest.is_one;
+    before = one_more_in_vain rest.steps first h is rest.before;
+  }
+
   upward_finds : (n first : ℕ) → first < 6 → Found n first (upward k priority n first)
   upward_finds zero first h = λ i lt. absurd (omega arith)
-  upward_finds (suc n) first h = go (competes k priority first) refl (upward k priority n ((first + 1) % 6)) (upward_finds n ((first + 1) % 6) (omega arith))
-    where
-      go : (b : Bool) → competes k priority first ≡ b → (r : Option ℕ) → Found n ((first + 1) % 6) r → Found (suc n) first (cond b (Some first) r)
-      go true is r rest = record { steps = 0; within = omega arith; there = omega arith; is_one = is; before = λ i lt. absurd (omega arith) }
-      go false is None rest = one_more_in_vain n first h is rest
-      go false is (Some w) rest = record {
-        steps = suc rest.steps;
-        within = let lt = rest.within in omega arith;
-        there = let at = rest.there in omega arith;
-        is_one = rest.is_one;
-        before = one_more_in_vain rest.steps first h is rest.before;
-      }
+  upward_finds (suc n) first h =
+      cond_both (competes k priority first) _ _ (Found (suc n) first)
+      (λ is. record { steps = 0; within = omega arith; there = omega arith; is_one = is; before = λ i lt. absurd (omega arith) })
+      (λ is. one_step_on n first h is _ (upward_finds n ((first + 1) % 6) (omega arith)))
 
 -- what a priority serves whose remembered channel is `last`
 module _ (k : Contest) (priority last : ℕ) (small : last < 6) where
@@ -82,14 +83,11 @@ module _ (k : Contest) (priority last : ℕ) (small : last < 6) where
         omega arith;
   }
 
-  turn : (b : Bool) → goes_on ≡ b → Served (cond b (Some last) (upward k priority 6 ((last + 1) % 6)))
-  turn true on = record {
-    below_6 = small;
-    is_one = (and_parts _ _ on).0;
-    again = λ _. refl;
-    nearest = λ idle. absurd (both_ways goes_on idle on);
-  }
-  turn false idle = found_is_served idle _ (upward_finds k priority 6 ((last + 1) % 6) (omega arith))
+  turn : Served (cond goes_on (Some last) (upward k priority 6 ((last + 1) % 6)))
+  turn =
+      cond_both goes_on _ _ Served
+      (λ on. record { below_6 = small; is_one = (and_parts _ _ on).0; again = λ _. refl; nearest = λ idle. absurd (both_ways goes_on idle on) })
+      (λ idle. found_is_served idle _ (upward_finds k priority 6 ((last + 1) % 6) (omega arith)))
 
 -- the highest of four that is in, or else the lowest, is what is picked by asking from the highest downward
 picked : {A : Type 0} (is_in : ℕ → Bool) (pick : ℕ → A) (top : ℕ) → top < 4 → ((q : ℕ) → top < q → q < 4 → is_in q ≡ false) → (0 < top → is_in top ≡ true) → cond (is_in 3) (pick 3) (cond (is_in 2) (pick 2) (cond (is_in 1) (pick 1) (pick 0))) ≡ pick top
@@ -101,27 +99,6 @@ module _ (k : Contest) where
 
   pub highest_serves_the_winner : (top : ℕ) → Highest k top → winner k ≡ served_at k top
   highest_serves_the_winner top high = picked (any_competes k) (served_at k) top high.a_priority high.idle_above high.else_lowest
-
-  abbrev IdleAbove : ℕ → Type 0
-  IdleAbove priority = (q : ℕ) → priority < q → q < 4 → any_competes k q ≡ false
-
-  one_more_idle : (priority : ℕ) → any_competes k (suc priority) ≡ false → IdleAbove (suc priority) → IdleAbove priority
-  one_more_idle priority idle above q lt h = grind (arith, above q)
-
-  -- the first of the priorities from this one downward to 1 at which a channel competes
-  abbrev down_from : ℕ → List ℕ
-  down_from zero = []
-  down_from (suc priority) = suc priority ∷ down_from priority
-
-  found_from : (priority : ℕ) → priority < 4 → IdleAbove priority → Highest k (unwrap_or (find (any_competes k) (down_from priority)) 0)
-  found_from zero h above = record { a_priority = h; idle_above = above; else_lowest = λ lt. absurd (omega arith) }
-  found_from (suc priority) h above =
-      cond_both (any_competes k (suc priority)) (Some (suc priority)) (find (any_competes k) (down_from priority)) (λ o. Highest k (unwrap_or o 0))
-      (λ some. record { a_priority = h; idle_above = above; else_lowest = λ _. some })
-      (λ idle. found_from priority (omega arith) (one_more_idle priority idle above))
-
-  pub highest_found : Highest k (unwrap_or (find (any_competes k) (3 ∷ 2 ∷ 1 ∷ [])) 0)
-  highest_found = found_from 3 (omega arith) (λ q lt h. absurd (omega arith))
 
   waiting_competes : (c : ℕ) → Waits k c → competes k (priority_of k c) c ≡ true
   waiting_competes c waits = and_from _ _ waits.words_due (eq-eqb _ _ refl)
@@ -175,4 +152,4 @@ module _ (k : Contest) (six : length k.contenders ≡ 6) (well : WellMade k) (to
   }
 
   pub served_lawfully : Arbitrates k (served_at k top)
-  served_lawfully = served_arbitrates _ (turn k top (remembered k top) small (goes_on k top (remembered k top) small) refl)
+  served_lawfully = served_arbitrates _ (turn k top (remembered k top) small)

@@ -3,7 +3,7 @@ use Rattle.std.specs.List.{find}
 use Rattle.std.proofs.iter.runs.Sources.{ranges}
 use Rattle.dma.specs.Arbitration.{any_competes}
 use Rattle.dma.specs.ArbitrationLaws.{Highest}
-use Rattle.dma.proofs.Turns.{highest_found}
+use Rattle.dma.proofs.Contests.{highest_found}
 use Rattle.dma.proofs.arbitration.Contest.highest.Goals as goal
 
 pub returns : goal.returns
