@@ -1,7 +1,9 @@
 -- One row of the table is changed by a call that may be refused.
-use Rattle.std.proofs.Common.{◌≡◌, ℕ, ◌^◌, ◌<◌, ◌≤◌, Bool, true, false, cond, ◌||◌, List, map, set, is_some, Some, None, Option, unwrap_or, sym, refl, ap, ◌∙◌, subst, zero-le, arith}
+use Rattle.std.proofs.Common.{◌≡◌, ℕ, ◌^◌, ◌<◌, ◌≤◌, Bool, true, false, cond, ◌||◌, List, map, length, sum_by, set, is_some, Some, None, Option, unwrap_or, sym, refl, ap, ◌∙◌, subst, zero-le, arith}
 use Rattle.std.proofs.lemmas.List.{set-get_or}
 use Rattle.std.proofs.lemmas.Bool.{and_parts, and_from, both_ways, cond_both}
+use Rattle.std.proofs.lemmas.List.Elements.{All-from_get_or}
+use Rattle.std.proofs.lemmas.List.Sums.{sum_by-le}
 use Rattle.memory.specs.declared.refusal.Refusal.{Refusal}
 use Rattle.memory.specs.declared.refusal.Refusal.TheVariants.{Busy}
 use Rattle.registers.specs.declared.register.Register.{Register}
@@ -117,10 +119,17 @@ halted_keeps r s = record {
 }
 
 -- a change of every row keeps the table sound
-pub sound_map : (rows : List Row) (f : Row → Row) → ((k : ℕ) → sound (row_at rows k) ≡ true) → ((r : Row) → Sound r → Sound (f r)) → (k : ℕ) → sound (row_at (map f rows) k) ≡ true
-sound_map rows f all keeps = all_of_map (λ r. sound r ≡ true) f rows reset_row all (λ r s. closed (f r) (keeps r (opened r s)))
+pub sound_mapped : (rows : List Row) (f : Row → Row) (after : List Row) → after ≡ map f rows → ((k : ℕ) → sound (row_at rows k) ≡ true) → ((r : Row) → Sound r → Sound (f r)) → (k : ℕ) → sound (row_at after k) ≡ true
+sound_mapped rows f after is all keeps k =
+    ap (λ l. sound (row_at l k)) is ∙ all_of_map (λ r. sound r ≡ true) f rows reset_row all (λ r s. closed (f r) (keeps r (opened r s))) k
 
 pub due_bound : (r : Row) → sound r ≡ true → r.due ≤ 2 ^ 24
 due_bound r h =
     let s = opened r h in
     omega (arith, s.due, words_left_fit (layout r) (preloaded r) (counted r) (cut_fits (layout r) r.preload) (cut_fits (layout r) r.count))
+
+-- the due words of six sound rows are a 32-bit number
+pub all_due_fit : (rows : List Row) → length rows ≡ 6 → ((k : ℕ) → sound (row_at rows k) ≡ true) → sum_by (λ (r : Row). r.due) rows < 2 ^ 32
+all_due_fit rows six all =
+    let each = sum_by-le (λ (r : Row). r.due) (2 ^ 24) rows (All-from_get_or (λ r. r.due ≤ 2 ^ 24) rows reset_row (λ k h. due_bound (row_at rows k) (all k))) in
+    omega arith

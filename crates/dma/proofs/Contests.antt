@@ -1,55 +1,51 @@
--- Who competes at a priority, and whom the search upward finds.
-use Rattle.std.proofs.Common.{◌≡◌, ℕ, zero, suc, ◌+◌, ◌-◌, ◌%◌, ◌<◌, ◌≤◌, Bool, true, false, ◌||◌, Some, None, sym, ap, ◌∙◌, inl, inr, arith}
-use Rattle.std.proofs.lemmas.Bool.{or_from, cond-true, cond-false, cases_lt}
+-- Who competes at a priority, and what the searches for the highest priority and for the next channel find.
+use Rattle.std.proofs.Common.{◌≡◌, ℕ, zero, suc, ◌+◌, ◌%◌, ◌<◌, true, false, List, [], ◌∷◌, map, length, Some, unwrap_or, refl, ap, ⊎_elim, arith}
+use Rattle.std.proofs.lemmas.Bool.{cases_lt, both_ways, cond_both}
+use Rattle.std.proofs.lemmas.List.{get_or_past}
+use Rattle.std.proofs.lemmas.List.Elements.{All-from_get_or}
+use Rattle.std.proofs.lemmas.List.Folds.{list_any_at, list_any_none}
+use Rattle.std.specs.List.{find, range_with_len}
 use Rattle.dma.specs.declared.arbitration.Contest.{Contest}
-use Rattle.dma.specs.Arbitration.{competes, any_competes, upward}
-
--- what holds of each of the six channels
-pub each_channel : (P : ℕ → Type 0) → P 0 → P 1 → P 2 → P 3 → P 4 → P 5 → (c : ℕ) → c < 6 → P c
-each_channel P p0 p1 p2 p3 p4 p5 zero h = p0
-each_channel P p0 p1 p2 p3 p4 p5 (suc zero) h = p1
-each_channel P p0 p1 p2 p3 p4 p5 (suc (suc zero)) h = p2
-each_channel P p0 p1 p2 p3 p4 p5 (suc (suc (suc zero))) h = p3
-each_channel P p0 p1 p2 p3 p4 p5 (suc (suc (suc (suc zero)))) h = p4
-each_channel P p0 p1 p2 p3 p4 p5 (suc (suc (suc (suc (suc zero))))) h = p5
-each_channel P p0 p1 p2 p3 p4 p5 (suc (suc (suc (suc (suc (suc c)))))) h = absurd (omega arith)
-
--- one of six tests that holds, and six that do not
-abbrev any_of : (ℕ → Bool) → Bool
-any_of f = f 0 || (f 1 || (f 2 || (f 3 || (f 4 || f 5))))
-
-any_by_one : (f : ℕ → Bool) (c : ℕ) → c < 6 → f c ≡ true → any_of f ≡ true
-any_by_one f = each_channel (λ c. f c ≡ true → any_of f ≡ true) (λ h. grind arith) (λ h. grind arith) (λ h. grind arith) (λ h. grind arith) (λ h. grind arith) (λ h. grind arith)
-
-any_by_none : (f : ℕ → Bool) → ((c : ℕ) → c < 6 → f c ≡ false) → any_of f ≡ false
-any_by_none f h =
-    or_from _ _ (h 0 (omega arith)) (or_from _ _ (h 1 (omega arith)) (or_from _ _ (h 2 (omega arith)) (or_from _ _ (h 3 (omega arith)) (or_from _ _ (h 4 (omega arith)) (h 5 (omega arith))))))
+use Rattle.dma.specs.Arbitration.{nobody, competes_at, competes, any_competes, upward}
+use Rattle.dma.specs.ArbitrationLaws.{Highest}
 
 module _ (k : Contest) (priority : ℕ) where
-  pub one_competes : (c : ℕ) → c < 6 → competes k priority c ≡ true → any_competes k priority ≡ true
-  one_competes = any_by_one (competes k priority)
+  pub one_competes : (c : ℕ) → competes k priority c ≡ true → any_competes k priority ≡ true
+  one_competes c is =
+      ⊎_elim
+      (λ within. list_any_at (competes_at priority) k.contenders c nobody within is)
+      (λ past. absurd (both_ways _ (ap (competes_at priority) (get_or_past k.contenders c nobody past)) is))
+      (cases_lt c (length k.contenders))
 
-  pub none_competes : ((c : ℕ) → c < 6 → competes k priority c ≡ false) → any_competes k priority ≡ false
-  none_competes = any_by_none (competes k priority)
+  pub none_competes : length k.contenders ≡ 6 → ((c : ℕ) → c < 6 → competes k priority c ≡ false) → any_competes k priority ≡ false
+  none_competes six none =
+      list_any_none (competes_at priority) k.contenders (All-from_get_or (λ x. competes_at priority x ≡ false) k.contenders nobody (λ c h. none c (omega arith)))
 
-  -- the search after i channels in vain
-  tries_left : (i : ℕ) → i < 6 → 6 - i ≡ suc (6 - (i + 1))
-  tries_left i h = omega arith
+  -- the search upward, as a list of channels that is searched
+  pub found_upward : (tries first i c : ℕ) → c ≡ (first + i) % 6 → find (competes k priority) (map (λ step. (first + step) % 6) (range_with_len i tries)) ≡ upward k priority tries c
+  found_upward zero first i c at = refl
+  found_upward (suc tries) first i c at =
+      let rest = found_upward tries first (i + 1) ((c + 1) % 6) (omega arith) in
+      cc
 
-  pub upward_here : (i c : ℕ) → i < 6 → competes k priority c ≡ true → upward k priority (6 - i) c ≡ Some c
-  upward_here i c h is = ap (λ n. upward k priority n c) (tries_left i h) ∙ cond-true _ _ _ is
+module _ (k : Contest) where
+  abbrev IdleAbove : ℕ → Type 0
+  IdleAbove priority = (q : ℕ) → priority < q → q < 4 → any_competes k q ≡ false
 
-  pub upward_on : (i c next : ℕ) → i < 6 → competes k priority c ≡ false → next ≡ (c + 1) % 6 → upward k priority (6 - i) c ≡ upward k priority (6 - (i + 1)) next
-  upward_on i c next h is follows =
-      ap (λ n. upward k priority n c) (tries_left i h) ∙ cond-false _ _ _ is ∙ ap (upward k priority (6 - (i + 1))) (sym follows)
+  one_more_idle : (priority : ℕ) → any_competes k (suc priority) ≡ false → IdleAbove (suc priority) → IdleAbove priority
+  one_more_idle priority idle above q lt h = grind (arith, above q)
 
-  pub upward_out : (i c : ℕ) → 6 ≤ i → upward k priority (6 - i) c ≡ None
-  upward_out i c h = let none_left : 6 - i ≡ 0 = omega arith in ap (λ n. upward k priority n c) none_left
+  -- the first of the priorities from this one downward to 1 at which a channel competes
+  abbrev down_from : ℕ → List ℕ
+  down_from zero = []
+  down_from (suc priority) = suc priority ∷ down_from priority
 
--- a priority more is idle, going down
-pub idle_down : (k : Contest) (priority : ℕ) → ((q : ℕ) → priority ≤ q → q < 4 → any_competes k q ≡ false) → false ≡ any_competes k (priority - 1) → (q : ℕ) → priority - 1 ≤ q → q < 4 → any_competes k q ≡ false
-idle_down k priority above idle q h lt =
-    elim (cases_lt q priority) [
-      | inl under ↦ let here : q ≡ priority - 1 = omega arith in ap (any_competes k) here ∙ sym idle
-      | inr over ↦ above q over lt
-    ]
+  found_from : (priority : ℕ) → priority < 4 → IdleAbove priority → Highest k (unwrap_or (find (any_competes k) (down_from priority)) 0)
+  found_from zero h above = record { a_priority = h; idle_above = above; else_lowest = λ lt. absurd (omega arith) }
+  found_from (suc priority) h above =
+      cond_both (any_competes k (suc priority)) (Some (suc priority)) (find (any_competes k) (down_from priority)) (λ o. Highest k (unwrap_or o 0))
+      (λ some. record { a_priority = h; idle_above = above; else_lowest = λ _. some })
+      (λ idle. found_from priority (omega arith) (one_more_idle priority idle above))
+
+  pub highest_found : Highest k (unwrap_or (find (any_competes k) (3 ∷ 2 ∷ 1 ∷ [])) 0)
+  highest_found = found_from 3 (omega arith) (λ q lt h. absurd (omega arith))

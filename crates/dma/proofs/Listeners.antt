@@ -1,5 +1,5 @@
 -- A source that no channel listens to.
-use Rattle.std.proofs.Common.{◌≡◌, ℕ, suc, ◌+◌, Bool, false, List, [], ◌∷◌, map, Ok, refl, ap, ◌∙◌}
+use Rattle.std.proofs.Common.{◌≡◌, ℕ, suc, Bool, false, List, [], ◌∷◌, map, sum_by, Ok, refl, ap, ◌∙◌}
 use Rattle.std.proofs.lemmas.Bool.{and_left, cond-false}
 use Rattle.dma.specs.declared.row.Row.{Row}
 use Rattle.dma.specs.Channels.{listens, captures, misses, made_due}
@@ -9,7 +9,7 @@ use Rattle.dma.specs.State.{State, row_at}
 -- a test that holds of no channel gives an empty mask
 empty_mask : (test : Row → Bool) (rows : List Row) → ((c : ℕ) → test (row_at rows c) ≡ false) → mask test rows ≡ 0
 empty_mask test rows none =
-    λ i. bit (none 0 i) 0 + bit (none 1 i) 1 + bit (none 2 i) 2 + bit (none 3 i) 3 + bit (none 4 i) 4 + bit (none 5 i) 5
+    λ i. sum_by (λ c. bit (none c i) c) (0 ∷ 1 ∷ 2 ∷ 3 ∷ 4 ∷ 5 ∷ [])
 
 unasked : (source : ℕ) (rows : List Row) → ((c : ℕ) → listens source (row_at rows c) ≡ false) → map (asked source) rows ≡ rows
 unasked source [] none = refl

@@ -1,5 +1,5 @@
 -- What holds of every entry of a table, and stays so when one entry is replaced.
-use Rattle.std.proofs.Common.{◌≡◌, ℕ, ◌+◌, ◌<◌, ◌≤◌, List, ◌++◌, map, length, get_or, take, drop, set, replicate, sym, ap, ◌∙◌, subst, ⊎_elim, append-nil, arith}
+use Rattle.std.proofs.Common.{◌≡◌, ℕ, suc, ◌+◌, ◌<◌, ◌≤◌, List, [], ◌∷◌, ◌++◌, map, length, get_or, take, drop, set, replicate, sym, refl, ap, ◌∙◌, subst, ⊎_elim, append-nil, arith}
 use Rattle.std.proofs.lemmas.List.{get_or-replicate, get_or_past, length-replicate, get_or-set_same, get_or-set_other, set_past, length-append, length-map, length-take, length-drop, get_or_default, take_all, drop_all, get_or-map}
 use Rattle.std.proofs.lemmas.List.Edits.{map_over_more}
 use Rattle.std.proofs.lemmas.Bool.{cases_eq, cases_lt}
@@ -33,15 +33,22 @@ module _ {T : Type 0} (P : T → Type 0) where
       (cases_lt k (length xs))
 
 -- a loop that maps a table in place: one more entry, and all of them
-module _ {T : Type 0} (f : T → T) (xs ys : List T) (i : ℕ) (long : length xs ≡ 6) (sofar : ys ≡ map f (take i xs) ++ drop i xs) where
-  pub map_more : (d n : T) → i < 6 → n ≡ f (get_or ys i d) → (i + 1 ≤ 6) × (length xs ≡ 6) × (set ys i n ≡ map f (take (i + 1) xs) ++ drop (i + 1) xs)
+module _ {T : Type 0} (f : T → T) (xs ys : List T) (i : ℕ) (six : length xs ≡ 6) (so_far : ys ≡ map f (take i xs) ++ drop i xs) where
+  pub map_more : (d n : T) → i < 6 → n ≡ f (get_or ys i d) → set ys i n ≡ map f (take (i + 1) xs) ++ drop (i + 1) xs
   map_more d n h e =
       let within : i < length xs = omega arith in
-      let same_length : length ys ≡ length xs = ap length sofar ∙ simp (length-append, length-map, length-take, length-drop) (omega arith) in
+      let same_length : length ys ≡ length xs = ap length so_far ∙ simp (length-append, length-map, length-take, length-drop) (omega arith) in
       let inside : i < length ys = omega arith in
-      (omega arith, long, ap (set ys i) e ∙ map_over_more f xs ys i (get_or ys i d) within sofar (get_or_default ys i d (get_or ys i d) inside))
+      ap (set ys i) e ∙ map_over_more f xs ys i (get_or ys i d) within so_far (get_or_default ys i d (get_or ys i d) inside)
 
   pub map_all : 6 ≤ i → ys ≡ map f xs
   map_all h =
       let over : length xs ≤ i = omega arith in
-      sofar ∙ (λ k. map f (take_all i xs over k) ++ drop_all i xs over k) ∙ append-nil (map f xs)
+      so_far ∙ (λ k. map f (take_all i xs over k) ++ drop_all i xs over k) ∙ append-nil (map f xs)
+
+-- a list that is f of another, place by place
+pub mapped : {A B : Type 0} (f : A → B) (xs : List A) (ys : List B) → length ys ≡ length xs → ((i : ℕ) (d : A) (e : B) → i < length xs → get_or ys i e ≡ f (get_or xs i d)) → ys ≡ map f xs
+mapped f [] [] same each = refl
+mapped f [] (y ∷ ys) same each = absurd (omega arith)
+mapped f (x ∷ xs) [] same each = absurd (omega arith)
+mapped f (x ∷ xs) (y ∷ ys) same each = let head = each 0 x y (omega arith) in let tail = mapped f xs ys (omega arith) (λ i d e h. each (suc i) d e (omega arith)) in (λ i. head i ∷ tail i)

@@ -1,8 +1,8 @@
 -- The channel that arbitration picks is the one that its laws ask for.
-use Rattle.std.proofs.Common.{◌≡◌, ℕ, zero, suc, ◌+◌, ◌%◌, ◌<◌, ◌≤◌, Bool, true, false, cond, ◌&&◌, ◌⊎◌, get_or, Some, None, Option, sym, refl, ap, ◌∙◌, subst, inl, inr, arith}
-use Rattle.std.proofs.lemmas.Bool.{and_parts, and_from, eqb-true, eq-eqb, both_ways, cases_lt, cases_Bool, cond-true, cond-false}
+use Rattle.std.proofs.Common.{◌≡◌, ℕ, zero, suc, ◌+◌, ◌%◌, ◌<◌, ◌≤◌, Bool, true, false, cond, ◌&&◌, length, Some, None, Option, sym, refl, ap, ◌∙◌, subst, inl, inr, arith}
+use Rattle.std.proofs.lemmas.Bool.{cond_both, and_parts, and_from, eqb-true, eq-eqb, both_ways, cases_Bool}
 use Rattle.dma.specs.declared.arbitration.Contest.{Contest}
-use Rattle.dma.specs.Arbitration.{competes, any_competes, upward, served_at, winner}
+use Rattle.dma.specs.Arbitration.{contender_at, competes, any_competes, upward, served_at, winner}
 use Rattle.dma.specs.ArbitrationLaws.{Waits, priority_of, remembered, distance, GoesOn, Highest, WellMade, Wins, Arbitrates}
 use Rattle.dma.proofs.Contests.{one_competes, none_competes}
 
@@ -35,25 +35,27 @@ module _ (k : Contest) (priority : ℕ) where
       let same : (first + suc i) % 6 ≡ ((first + 1) % 6 + i) % 6 = omega arith in
       ap (competes k priority) same ∙ rest i (omega arith)
 
+  one_step_on : (n first : ℕ) → first < 6 → competes k priority first ≡ false → (r : Option ℕ) → Found n ((first + 1) % 6) r → Found (suc n) first r
+  one_step_on n first h is None rest = one_more_in_vain n first h is rest
+  one_step_on n first h is (Some w) rest = record {
+    steps = suc rest.steps;
+    within = let lt = rest.within in omega arith;
+    there = let at = rest.there in omega arith;
+    is_one = rest.is_one;
+    before = one_more_in_vain rest.steps first h is rest.before;
+  }
+
   upward_finds : (n first : ℕ) → first < 6 → Found n first (upward k priority n first)
   upward_finds zero first h = λ i lt. absurd (omega arith)
-  upward_finds (suc n) first h = go (competes k priority first) refl (upward k priority n ((first + 1) % 6)) (upward_finds n ((first + 1) % 6) (omega arith))
-    where
-      go : (b : Bool) → competes k priority first ≡ b → (r : Option ℕ) → Found n ((first + 1) % 6) r → Found (suc n) first (cond b (Some first) r)
-      go true is r rest = record { steps = 0; within = omega arith; there = omega arith; is_one = is; before = λ i lt. absurd (omega arith) }
-      go false is None rest = one_more_in_vain n first h is rest
-      go false is (Some w) rest = record {
-        steps = suc rest.steps;
-        within = let lt = rest.within in omega arith;
-        there = let at = rest.there in omega arith;
-        is_one = rest.is_one;
-        before = one_more_in_vain rest.steps first h is rest.before;
-      }
+  upward_finds (suc n) first h =
+      cond_both (competes k priority first) _ _ (Found (suc n) first)
+      (λ is. record { steps = 0; within = omega arith; there = omega arith; is_one = is; before = λ i lt. absurd (omega arith) })
+      (λ is. one_step_on n first h is _ (upward_finds n ((first + 1) % 6) (omega arith)))
 
 -- what a priority serves whose remembered channel is `last`
 module _ (k : Contest) (priority last : ℕ) (small : last < 6) where
   abbrev goes_on : Bool
-  goes_on = competes k priority last && get_or k.continuous last false
+  goes_on = competes k priority last && (contender_at k last).continuous
 
   record Serves (w : ℕ) : Type 0 where
     below_6 : w < 6
@@ -67,7 +69,7 @@ module _ (k : Contest) (priority last : ℕ) (small : last < 6) where
 
   -- none of the first channels upward competes, so one that does is as far away
   as_far : (steps c : ℕ) → NoneAmong k priority steps ((last + 1) % 6) → c < 6 → competes k priority c ≡ true → steps ≤ distance last c
-  as_far steps c before h is = elim (cases_lt (distance last c) steps) [ inl near ↦ absurd (both_ways _ (sym (ap (competes k priority) (at_its_distance last c small h)) ∙ before _ near) is) | inr far ↦ far ]
+  as_far steps c before h is = grind (arith, at_its_distance last c small h, before (distance last c))
 
   found_is_served : goes_on ≡ false → (r : Option ℕ) → Found k priority 6 ((last + 1) % 6) r → Served r
   found_is_served idle None found = λ c h. sym (ap (competes k priority) (at_its_distance last c small h)) ∙ found (distance last c) (omega arith)
@@ -81,80 +83,37 @@ module _ (k : Contest) (priority last : ℕ) (small : last < 6) where
         omega arith;
   }
 
-  turn : (b : Bool) → goes_on ≡ b → Served (cond b (Some last) (upward k priority 6 ((last + 1) % 6)))
-  turn true on = record {
-    below_6 = small;
-    is_one = (and_parts _ _ on).0;
-    again = λ _. refl;
-    nearest = λ idle. absurd (both_ways goes_on idle on);
-  }
-  turn false idle = found_is_served idle _ (upward_finds k priority 6 ((last + 1) % 6) (omega arith))
+  turn : Served (cond goes_on (Some last) (upward k priority 6 ((last + 1) % 6)))
+  turn =
+      cond_both goes_on _ _ Served
+      (λ on. record { below_6 = small; is_one = (and_parts _ _ on).0; again = λ _. refl; nearest = λ idle. absurd (both_ways goes_on idle on) })
+      (λ idle. found_is_served idle _ (upward_finds k priority 6 ((last + 1) % 6) (omega arith)))
+
+-- the highest of four that is in, or else the lowest, is what is picked by asking from the highest downward
+picked : {A : Type 0} (is_in : ℕ → Bool) (pick : ℕ → A) (top : ℕ) → top < 4 → ((q : ℕ) → top < q → q < 4 → is_in q ≡ false) → (0 < top → is_in top ≡ true) → cond (is_in 3) (pick 3) (cond (is_in 2) (pick 2) (cond (is_in 1) (pick 1) (pick 0))) ≡ pick top
+picked is_in pick top h above some = grind (arith, above 3, above 2, above 1, some)
 
 module _ (k : Contest) where
-  idle_priority : (priority c : ℕ) → any_competes k priority ≡ false → c < 6 → competes k priority c ≡ false
-  idle_priority priority c idle h =
-      elim (cases_Bool (competes k priority c)) [ inl is ↦ absurd (both_ways _ idle (one_competes k priority c h is)) | inr is-not ↦ is-not ]
-
-  -- what the priorities from this one downward serve
-  abbrev falls : ℕ → Option ℕ
-  falls zero = served_at k zero
-  falls (suc priority) = cond (any_competes k (suc priority)) (served_at k (suc priority)) (falls priority)
-
-  falls_to_the_highest : (top : ℕ) → Highest k top → (priority : ℕ) → priority < 4 → top ≤ priority → falls priority ≡ served_at k top
-  falls_to_the_highest top high zero h under = let here : 0 ≡ top = omega arith in ap (served_at k) here
-  falls_to_the_highest top high (suc priority) h under = go (cases_lt top (suc priority)) (falls_to_the_highest top high priority (omega arith))
-    where
-      go : (top < suc priority) ⊎ (suc priority ≤ top) → (top ≤ priority → falls priority ≡ served_at k top) → falls (suc priority) ≡ served_at k top
-      go (inl over) lower = cond-false _ _ _ (high.idle_above (suc priority) over h) ∙ lower (omega arith)
-      go (inr at) lower =
-          let here : top ≡ suc priority = omega arith in
-          let some : any_competes k (suc priority) ≡ true = ap (any_competes k) (sym here) ∙ high.else_lowest (omega arith) in
-          cond-true _ _ _ some ∙ ap (served_at k) (sym here)
+  idle_priority : (priority c : ℕ) → any_competes k priority ≡ false → competes k priority c ≡ false
+  idle_priority priority c idle = grind (arith, one_competes k priority c)
 
   pub highest_serves_the_winner : (top : ℕ) → Highest k top → winner k ≡ served_at k top
-  highest_serves_the_winner top high = let h = high.a_priority in falls_to_the_highest top high 3 (omega arith) (omega arith)
-
-  abbrev IdleAbove : ℕ → Type 0
-  IdleAbove priority = (q : ℕ) → priority < q → q < 4 → any_competes k q ≡ false
-
-  one_more_idle : (priority : ℕ) → any_competes k (suc priority) ≡ false → IdleAbove (suc priority) → IdleAbove priority
-  one_more_idle priority idle above q lt h =
-      elim (cases_lt (suc priority) q) [
-        | inl over ↦ above q over h
-        | inr under ↦ let here : q ≡ suc priority = omega arith in ap (any_competes k) here ∙ idle
-      ]
-
-  highest_from : (priority : ℕ) → priority < 4 → IdleAbove priority → (top : ℕ) × Highest k top
-  highest_from zero h above = (0, record { a_priority = h; idle_above = above; else_lowest = λ lt. absurd (omega arith) })
-  highest_from (suc priority) h above = go (any_competes k (suc priority)) refl (highest_from priority (omega arith))
-    where
-      go : (b : Bool) → any_competes k (suc priority) ≡ b → (IdleAbove priority → (top : ℕ) × Highest k top) → (top : ℕ) × Highest k top
-      go true some lower = (suc priority, record { a_priority = h; idle_above = above; else_lowest = λ _. some })
-      go false idle lower = lower (one_more_idle priority idle above)
-
-  highest : (top : ℕ) × Highest k top
-  highest = highest_from 3 (omega arith) (λ q lt h. absurd (omega arith))
+  highest_serves_the_winner top high = picked (any_competes k) (served_at k) top high.a_priority high.idle_above high.else_lowest
 
   waiting_competes : (c : ℕ) → Waits k c → competes k (priority_of k c) c ≡ true
   waiting_competes c waits = and_from _ _ waits.words_due (eq-eqb _ _ refl)
 
-module _ (k : Contest) (well : WellMade k) (top : ℕ) (is : Highest k top) where
+module _ (k : Contest) (six : length k.contenders ≡ 6) (well : WellMade k) (top : ℕ) (is : Highest k top) where
   small : remembered k top < 6
   small = well.six_channels top is.a_priority
 
   waiting_is_not_above : (c : ℕ) → Waits k c → priority_of k c ≤ top
   waiting_is_not_above c waits =
-      elim (cases_lt top (priority_of k c)) [
-        | inl over ↦ absurd (both_ways _ (idle_priority k _ c (is.idle_above _ over (well.four_priorities c waits.a_channel)) waits.a_channel) (waiting_competes k c waits))
-        | inr under ↦ under
-      ]
+      grind (arith, waiting_competes k c waits, idle_priority k (priority_of k c) c, is.idle_above (priority_of k c), well.four_priorities c waits.a_channel)
 
   nobody_waits : ((c : ℕ) → c < 6 → competes k top c ≡ false) → (c : ℕ) → Waits k c → ⊥
   nobody_waits none c waits =
-      let lowest : top ≤ 0 = elim (cases_lt 0 top) [ inl over ↦ absurd (both_ways _ (none_competes k top none) (is.else_lowest over)) | inr under ↦ under ] in
-      let not-above = waiting_is_not_above c waits in
-      let here : priority_of k c ≡ top = omega arith in
-      both_ways _ (none c waits.a_channel) (subst (λ (p : ℕ). competes k p c ≡ true) here (waiting_competes k c waits))
+      grind (arith, none c waits.a_channel, waiting_competes k c waits, waiting_is_not_above c waits, none_competes k top six none, is.else_lowest)
 
   on_if_goes_on : GoesOn k top → goes_on k top (remembered k top) small ≡ true
   on_if_goes_on on = and_from _ _ (and_from _ _ on.waits.words_due (eq-eqb _ _ on.of_this_priority)) on.is_continuous
@@ -192,10 +151,5 @@ module _ (k : Contest) (well : WellMade k) (top : ℕ) (is : Highest k top) wher
     rightly = λ v e. let same : w ≡ v = cc in subst (Wins k) same (served_wins w served);
   }
 
-pub winner_arbitrates : (k : Contest) (r : Option ℕ) → r ≡ winner k → WellMade k → Arbitrates k r
-winner_arbitrates k r is well =
-    let top = (highest k).0 in
-    let high = (highest k).1 in
-    let low = small k well top high in
-    let served = turn k top (remembered k top) low (goes_on k top (remembered k top) low) refl in
-    served_arbitrates k well top high r (subst (Served k top (remembered k top) low) (sym (is ∙ highest_serves_the_winner k top high)) served)
+  pub served_lawfully : Arbitrates k (served_at k top)
+  served_lawfully = served_arbitrates _ (turn k top (remembered k top) small)

@@ -1,15 +1,15 @@
 -- What arbitration promises of the channel that it picks.
-use Rattle.std.specs.Prelude.{◌≡◌, ℕ, ◌+◌, ◌-◌, ◌%◌, ◌<◌, ◌≤◌, true, false, is_some, Some, None, Option, slice_index, slice_index_or}
+use Rattle.std.specs.Prelude.{◌≡◌, ℕ, ◌+◌, ◌-◌, ◌%◌, ◌<◌, ◌≤◌, true, false, is_some, Some, None, Option, slice_index}
 use Rattle.dma.specs.declared.arbitration.Contest.{Contest}
-use Rattle.dma.specs.Arbitration.{any_competes}
+use Rattle.dma.specs.Arbitration.{contender_at, any_competes}
 
 -- a channel of the six has words due
 pub record Waits (k : Contest) (c : ℕ) : Type 0 where
   pub a_channel : c < 6
-  pub words_due : slice_index_or k.due c false ≡ true
+  pub words_due : (contender_at k c).due ≡ true
 
 abbrev pub priority_of : Contest → ℕ → ℕ
-priority_of k c = slice_index k.priority c
+priority_of k c = (contender_at k c).priority
 
 -- the channel that a priority served last
 abbrev pub remembered : Contest → ℕ → ℕ
@@ -23,7 +23,7 @@ distance last c = (c + 5 - last) % 6
 pub record GoesOn (k : Contest) (priority : ℕ) : Type 0 where
   pub waits : Waits k (remembered k priority)
   pub of_this_priority : priority_of k (remembered k priority) ≡ priority
-  pub is_continuous : slice_index_or k.continuous (remembered k priority) false ≡ true
+  pub is_continuous : (contender_at k (remembered k priority)).continuous ≡ true
 
 -- the highest priority at which a channel competes, or 0 if there is none
 pub record Highest (k : Contest) (priority : ℕ) : Type 0 where

@@ -1,5 +1,5 @@
 -- A request of a source: who takes it, who misses it, and what it makes due.
-use Rattle.std.specs.Prelude.{◌≡◌, ℕ, ◌+◌, ◌^◌, Bool, false, cond, ◌&&◌, ◌||◌, List, map, Ok, Err, Result, nat_le, nat_lt}
+use Rattle.std.specs.Prelude.{◌≡◌, ℕ, ◌^◌, Bool, false, if◌then◌else◌, ◌&&◌, ◌||◌, List, [], ◌∷◌, map, sum_by, Ok, Err, Result, nat_le, nat_lt}
 use Rattle.memory.specs.declared.refusal.Refusal.{Refusal}
 use Rattle.memory.specs.declared.refusal.Refusal.TheVariants.{NoSuchSource}
 use Rattle.dma.specs.declared.masks.Masks.{Masks}
@@ -12,13 +12,15 @@ abbrev pub no_such_source : ℕ → Bool
 no_such_source source = (nat_le 4 source && nat_le source 9) || nat_lt 31 source
 
 abbrev pub bit : Bool → ℕ → ℕ
-bit b c = cond b (2 ^ c) 0
+bit b c = if b then 2 ^ c else 0
 
--- the channels of a table for which a test holds, bit c for channel c
+-- the channels that are in, bit c for channel c
+abbrev pub mask_of : (ℕ → Bool) → ℕ
+mask_of is_in = sum_by (λ c. bit (is_in c) c) (0 ∷ 1 ∷ 2 ∷ 3 ∷ 4 ∷ 5 ∷ [])
+
+-- the channels of a table for which a test holds
 abbrev pub mask : (Row → Bool) → List Row → ℕ
-mask test rows =
-    bit (test (row_at rows 0)) 0 + bit (test (row_at rows 1)) 1 + bit (test (row_at rows 2)) 2 + bit (test (row_at rows 3)) 3 + bit (test (row_at rows 4)) 4
-    + bit (test (row_at rows 5)) 5
+mask test rows = mask_of (λ c. test (row_at rows c))
 
 abbrev pub masks_of : ℕ → List Row → Masks
 masks_of source rows = record { captured = mask (captures source) rows; missed = mask (misses source) rows }
@@ -37,16 +39,16 @@ with_due r words = record {
 }
 
 abbrev pub asked : ℕ → Row → Row
-asked source r = cond (captures source r) (with_due r (made_due r)) r
+asked source r = if captures source r then with_due r (made_due r) else r
 
 abbrev pub raised : ℕ → State → State
 raised source s = record { rows = map (asked source) s.rows; offsets = s.offsets; last = s.last }
 
 abbrev pub raise_answer : State → ℕ → Result Masks Refusal
-raise_answer s source = cond (no_such_source source) (Err NoSuchSource) (Ok (masks_of source s.rows))
+raise_answer s source = if no_such_source source then Err NoSuchSource else Ok (masks_of source s.rows)
 
 abbrev pub after_raise : State → ℕ → State
-after_raise s source = cond (no_such_source source) s (raised source s)
+after_raise s source = if no_such_source source then s else raised source s
 
 -- no channel listens to the source: then two empty masks are answered
 abbrev pub NobodyListens : ℕ → State → Type 0

@@ -1,7 +1,8 @@
 -- What a get of a register answers.
-use Rattle.std.specs.Prelude.{ℕ, ◌+◌, ◌*◌, ◌^◌, cond, not, List, [], ◌∷◌, Some, None, Ok, Err, Option, Result, nat_lt, slice_index}
+use Rattle.std.specs.Prelude.{ℕ, ◌+◌, ◌*◌, ◌^◌, if◌then◌else◌, not, map, Some, None, Ok, Err, Option, Result, nat_lt, slice_index}
 use Rattle.memory.specs.declared.refusal.Refusal.{Refusal}
 use Rattle.memory.specs.declared.refusal.Refusal.TheVariants.{NoSuchRegister}
+use Rattle.dma.specs.declared.arbitration.Contender.{Contender}
 use Rattle.dma.specs.declared.arbitration.Contest.{Contest}
 use Rattle.registers.specs.Names.{unknown}
 use Rattle.registers.specs.declared.register.Register.{Register}
@@ -12,18 +13,13 @@ use Rattle.dma.specs.Channels.{settings}
 use Rattle.dma.specs.Raises.{mask}
 use Rattle.dma.specs.State.{State, row_at}
 
--- something of each of the six channels
-abbrev pub each : {T : Type 0} → (Row → T) → List Row → List T
-each f rows = f (row_at rows 0) ∷ f (row_at rows 1) ∷ f (row_at rows 2) ∷ f (row_at rows 3) ∷ f (row_at rows 4) ∷ f (row_at rows 5) ∷ []
+-- what arbitration looks at of one channel
+abbrev pub contender : Row → Contender
+contender r = record { due = nat_lt 0 r.due; priority = (settings r).priority; continuous = (settings r).continuous }
 
 -- what arbitration looks at
 abbrev pub contest : State → Contest
-contest s = record {
-  due = each (λ r. nat_lt 0 r.due) s.rows;
-  priority = each (λ r. (settings r).priority) s.rows;
-  continuous = each (λ r. (settings r).continuous) s.rows;
-  last = s.last;
-}
+contest s = record { contenders = map contender s.rows; last = s.last }
 
 -- the channel that the next slot would serve
 unfoldable pub next_served : State → Option ℕ
@@ -49,4 +45,4 @@ held s =
     ]
 
 abbrev pub get_answer : State → Register → Result ℕ Refusal
-get_answer s register = cond (unknown register) (Err NoSuchRegister) (Ok (held s register))
+get_answer s register = if unknown register then Err NoSuchRegister else Ok (held s register)

@@ -1,8 +1,8 @@
 -- Stopping the controller.
-use Rattle.std.specs.Prelude.{ℕ, ◌+◌, ◌&&◌, map}
+use Rattle.std.specs.Prelude.{ℕ, ◌&&◌, map, sum_by}
 use Rattle.dma.specs.declared.row.Row.{Row}
 use Rattle.dma.specs.Channels.{settings}
-use Rattle.dma.specs.State.{State, row_at}
+use Rattle.dma.specs.State.{State}
 
 -- every due word is lost; a draining channel is done, without an interrupt; all else stands
 abbrev pub halted : Row → Row
@@ -23,5 +23,4 @@ after_stop s = record { rows = map halted s.rows; offsets = s.offsets; last = s.
 
 -- how many due words a stop loses
 abbrev pub lost : State → ℕ
-lost s =
-    (row_at s.rows 0).due + (row_at s.rows 1).due + (row_at s.rows 2).due + (row_at s.rows 3).due + (row_at s.rows 4).due + (row_at s.rows 5).due
+lost s = sum_by (λ r. r.due) s.rows

@@ -1,19 +1,33 @@
 // Which channel the next slot serves.
-ghost use Rattle.std.specs.Prelude.{◌≡◌, ◌+◌, ◌%◌, ◌<◌, true};
-ghost use Rattle.dma.specs.Arbitration.{competes, any_competes, upward, served_at, winner};
+ghost use Rattle.std.specs.Prelude.{◌≡◌, ◌+◌, ◌%◌, ◌<◌, ◌&&◌, ◌==◌, true};
+ghost use Rattle.dma.specs.Arbitration.{competes_at, competes, any_competes, upward, served_at, winner};
 ghost use Rattle.dma.specs.ArbitrationLaws.{Highest, WellMade, Arbitrates};
 
 const CHANNELS: u8 = 6;
 
 const PRIORITIES: u8 = 4;
 
-// All that arbitration looks at: which channels have words due, their priorities and DCON bits, and which channel each priority served last.
+// One channel: whether it has words due, its priority and its DCON bit.
+#[derive(Clone, Copy, PartialEq, Eq, Debug)]
+pub struct Contender {
+    pub due: bool,
+    pub priority: u8,
+    pub continuous: bool,
+}
+
+// All that arbitration looks at: the six channels, and which of them each priority served last.
 #[derive(Clone, Copy, PartialEq, Eq, Debug)]
 pub struct Contest {
-    pub due: [bool; 6],
-    pub priority: [u8; 6],
-    pub continuous: [bool; 6],
+    pub contenders: [Contender; 6],
     pub last: [u8; 4],
+}
+
+impl Contender {
+    fn competes(&self, priority: u8) -> bool
+        ensures value { result ≡ competes_at priority self.now }
+    {
+        self.due && self.priority == priority
+    }
 }
 
 impl Contest {
@@ -29,12 +43,10 @@ impl Contest {
     fn highest(&self) -> u8
         ensures highest { Highest self.now result }
     {
-        for priority in (1..PRIORITIES).rev() {
-            if self.any_competes(priority) {
-                return priority;
-            }
-        }
-        0
+        (1..PRIORITIES)
+            .rev()
+            .find(|priority| self.any_competes(*priority))
+            .unwrap_or(0)
     }
 
     // Among equals the remembered channel goes on if it is continuous; else the next one upward has its turn.
@@ -43,35 +55,29 @@ impl Contest {
         ensures value { result ≡ served_at self.now priority }
     {
         let last = self.last[priority as usize];
-        if self.competes(priority, last) && self.continuous[last as usize] {
+        if self.competes(priority, last) && self.contenders[last as usize].continuous {
             Some(last)
         } else {
-            self.upward(priority, after(last))
+            self.upward(priority, last)
         }
     }
 
-    fn upward(&self, priority: u8, first: u8) -> Option<u8>
-        ensures value { result ≡ upward self.now priority 6 first }
+    // The next channel upward that competes, 0 following 5.
+    fn upward(&self, priority: u8, last: u8) -> Option<u8>
+        ensures value { result ≡ upward self.now priority 6 ((last + 1) % 6) }
     {
-        let mut channel = first;
-        for _ in 0..CHANNELS {
-            if self.competes(priority, channel) {
-                return Some(channel);
-            }
-            channel = after(channel);
-        }
-        None
+        let first = last % CHANNELS + 1;
+        (0..CHANNELS)
+            .map(|step| (first + step) % CHANNELS)
+            .find(|channel| self.competes(priority, *channel))
     }
 
     fn any_competes(&self, priority: u8) -> bool
         ensures value { result ≡ any_competes self.now priority }
     {
-        for channel in 0..CHANNELS {
-            if self.competes(priority, channel) {
-                return true;
-            }
-        }
-        false
+        self.contenders
+            .iter()
+            .any(|contender| contender.competes(priority))
     }
 
     // A number above 5, which a remembered channel may be, is no channel.
@@ -79,18 +85,10 @@ impl Contest {
         ensures value { result ≡ competes self.now priority channel }
         ensures a_channel { result ≡ true → channel < 6 }
     {
-        if channel >= CHANNELS {
-            return false;
-        }
-        self.due[channel as usize] && self.priority[channel as usize] == priority
+        self.contenders
+            .get(channel as usize)
+            .is_some_and(|contender| contender.competes(priority))
     }
-}
-
-// The next channel upward, 0 following 5.
-fn after(channel: u8) -> u8
-    ensures value { result ≡ (channel + 1) % 6 }
-{
-    ((channel as u16 + 1) % 6) as u8
 }
 
 #[cfg(test)]

@@ -1,11 +1,21 @@
 // Slots one after another, each remembering the channel of the one before.
-use super::Contest;
+use super::{Contender, Contest};
+
+const IDLE: Contender = Contender {
+    due: false,
+    priority: 1,
+    continuous: false,
+};
+
+const DUE: Contender = Contender {
+    due: true,
+    priority: 1,
+    continuous: false,
+};
 
 // Channels 0, 2 and 5 have words due at priority 1; as after reset, every priority remembers channel 5.
 const EQUALS: Contest = Contest {
-    due: [true, false, true, false, false, true],
-    priority: [1; 6],
-    continuous: [false; 6],
+    contenders: [DUE, IDLE, DUE, IDLE, IDLE, DUE],
     last: [5; 4],
 };
 
@@ -25,18 +35,20 @@ fn equals_take_turns(rt: HostRuntime) {
 #[test]
 fn continuous_channel_goes_on_while_due(rt: HostRuntime) {
     let mut contest = EQUALS;
-    contest.continuous[2] = true;
+    contest.contenders[2].continuous = true;
     assert_eq!(rt; served_after(0, contest), Some(2));
     assert_eq!(rt; served_after(2, contest), Some(2));
-    contest.due[2] = false;
+    contest.contenders[2].due = false;
     assert_eq!(rt; served_after(2, contest), Some(5));
 }
 
 #[test]
 fn higher_priority_goes_first(rt: HostRuntime) {
     let mut contest = EQUALS;
-    contest.priority[5] = 3;
+    contest.contenders[5].priority = 3;
     assert_eq!(rt; contest.winner(), Some(5));
-    contest.due = [false; 6];
+    for contender in contest.contenders.iter_mut() {
+        contender.due = false;
+    }
     assert_eq!(rt; contest.winner(), None);
 }

@@ -1,20 +1,32 @@
 // Reading the registers.
 ghost use Rattle.std.specs.Prelude.{◌≡◌};
 ghost use Rattle.dma.specs.Banks.{state_of};
-ghost use Rattle.dma.specs.Reads.{contest, next_served, status_of, status, get_answer};
+ghost use Rattle.dma.specs.Reads.{contender, contest, next_served, status_of, status, get_answer};
 
-use crate::arbitration::Contest;
+use crate::arbitration::{Contender, Contest};
 use crate::bank::Bank;
 use crate::bank::raising::mask;
+use crate::row::Row;
 use memory::refusal::Refusal;
 use registers::register::Register;
 
 fn status_of(done: u8, next: Option<u8>) -> u32
     ensures value { result ≡ status_of done next }
 {
-    match next {
-        Some(next) => u32::from(done) + 0x100 + u32::from(next) * 0x200,
-        None => u32::from(done),
+    u32::from(done) + next.map_or(0, |next| 0x100 + u32::from(next) * 0x200)
+}
+
+impl Row {
+    // What arbitration looks at of one channel.
+    fn contender(&self) -> Contender
+        ensures value { result ≡ contender self.now }
+    {
+        let settings = self.settings();
+        Contender {
+            due: self.due > 0,
+            priority: settings.priority,
+            continuous: settings.continuous,
+        }
     }
 }
 
@@ -23,40 +35,8 @@ impl Bank {
     pub fn contest(&self) -> Contest
         ensures value { result ≡ contest (state_of self.now) }
     {
-        let rows = self.rows;
-        let s = [
-            rows[0].settings(),
-            rows[1].settings(),
-            rows[2].settings(),
-            rows[3].settings(),
-            rows[4].settings(),
-            rows[5].settings(),
-        ];
         Contest {
-            due: [
-                rows[0].due > 0,
-                rows[1].due > 0,
-                rows[2].due > 0,
-                rows[3].due > 0,
-                rows[4].due > 0,
-                rows[5].due > 0,
-            ],
-            priority: [
-                s[0].priority,
-                s[1].priority,
-                s[2].priority,
-                s[3].priority,
-                s[4].priority,
-                s[5].priority,
-            ],
-            continuous: [
-                s[0].continuous,
-                s[1].continuous,
-                s[2].continuous,
-                s[3].continuous,
-                s[4].continuous,
-                s[5].continuous,
-            ],
+            contenders: self.rows.map(|row| row.contender()),
             last: self.last,
         }
     }
@@ -72,15 +52,7 @@ impl Bank {
     fn status(&self) -> u32
         ensures value { result ≡ status (state_of self.now) }
     {
-        let rows = self.rows;
-        let done = mask([
-            !rows[0].active,
-            !rows[1].active,
-            !rows[2].active,
-            !rows[3].active,
-            !rows[4].active,
-            !rows[5].active,
-        ]);
+        let done = mask(self.rows.map(|row| !row.active));
         status_of(done, self.next())
     }
 

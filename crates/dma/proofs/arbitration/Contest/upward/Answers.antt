@@ -1,15 +1,16 @@
-use Rattle.std.proofs.Common.{sym, ◌∙◌}
-use Rattle.dma.proofs.Contests.{upward_here, upward_on, upward_out}
+use Rattle.std.proofs.Common.{rules, ◌≡◌, ℕ, ◌+◌, ◌%◌, Option, option_map, sym, refl, ◌∙◌, arith}
+use borrow.Author.Tests.{tests}
+use Rattle.std.proofs.lemmas.Iterator.{YieldsList-from_range, YieldsList-from_map}
+use Rattle.std.proofs.lemmas.Iterator.Search.{find_from_yields_List}
+use Rattle.dma.specs.Arbitration.{competes}
+use Rattle.dma.proofs.Contests.{found_upward}
 use Rattle.dma.proofs.arbitration.Contest.upward.Goals as goal
 
-pub returns-then-competes : goal.returns-then-competes
-returns-then-competes c =
-    record { value = sym (c.loop.invariant ∙ upward_here c.args.self.now _ _ _ c.loop-test.true (sym c.if-competes.ensures.value)) }
-
-pub loop-preserved : goal.loop-preserved
-loop-preserved c =
-    c.loop.invariant
-    ∙ upward_on c.args.self.now _ _ _ _ c.loop-test.true (sym c.if-competes.ensures.value) c.after-channel.ensures.value
-
 pub returns : goal.returns
-returns c = record { value = sym (c.loop.invariant ∙ upward_out c.args.self.now _ _ _ c.loop-test.false) }
+returns c =
+    let k = c.args.self.now in
+    let first = c.args.last % 6 + 1 in
+    let is = find_from_yields_List (competes k c.args.priority) _ _ c.find.result c.find.ensures.ran (YieldsList-from_map _ (λ step. (first + step) % 6) (YieldsList-from_range 0 6 6 c.map.ensures.source refl) c.map.ensures.closure (λ x r q h. search rules)) (λ x b q h. search (rules, tests)) in
+    let next : (c.args.last + 1) % 6 ≡ (first + 0) % 6 = omega arith in
+    let same : (o : Option ℕ) → option_map (λ x. x) o ≡ o = λ o. search rules in
+    record { value = sym (same c.find.result) ∙ is ∙ found_upward k c.args.priority 6 first 0 _ next }
