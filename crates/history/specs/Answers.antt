@@ -7,10 +7,6 @@ use Rattle.history.specs.declared.call.Answer.{Answer}
 use Rattle.history.specs.declared.call.Answer.TheVariants.{Done, Word, Raised, Refused, Fault}
 
 -- an outcome is told by what it holds
-abbrev pub Told : {T E A : Type 0} → (T → A → Type 0) → (E → A → Type 0) → Result T E → A → Type 0
-Told value error (Ok x) answer = value x answer
-Told value error (Err e) answer = error e answer
-
 abbrev pub told : {T E : Type 0} → (T → Answer) → (E → Answer) → Result T E → Answer
 told value error (Ok x) = value x
 told value error (Err e) = error e

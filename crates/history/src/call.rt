@@ -1,7 +1,6 @@
 // The calls of a device, and what each is answered.
-ghost use Rattle.std.specs.Prelude.{◌≡◌};
+ghost use Rattle.std.specs.Prelude.{◌≡◌, MatchResult};
 ghost use Rattle.history.specs.declared.call.Answer.TheVariants.{Done, Word, Raised, Refused, Fault};
-ghost use Rattle.history.specs.Answers.{Told};
 
 use dma::register::{Masks, Register};
 use memory::place::Place;
@@ -75,7 +74,7 @@ impl From<Fault> for Answer {
 
 // What a call of the controller or of the memory gives, or why it is refused.
 impl<T: Into<Answer>, E: Into<Answer>> From<Result<T, E>> for Answer {
-    ghost from_gives = { Told T.converts E.converts };
+    ghost from_gives = { λ outcome answer. MatchResult outcome (λ x. T.converts x answer) (λ e. E.converts e answer) };
 
     fn from(outcome: Result<T, E>) -> Answer {
         match outcome {
