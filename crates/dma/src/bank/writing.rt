@@ -6,6 +6,7 @@ ghost use Rattle.dma.specs.Sets.{unknown, channel_of, row_refusal, row_set, chan
 ghost use Rattle.dma.specs.State.{row_at};
 
 use crate::bank::Bank;
+use crate::channel::Channel;
 use crate::register::Register;
 use memory::refusal::Refusal;
 
@@ -26,16 +27,12 @@ impl Register {
 }
 
 impl Bank {
-    fn set_row(&mut self, c: u8, register: Register, value: u32) -> Result<(), Refusal>
-        requires { (c < 6) × (value < 0x1000000) }
+    fn set_row(&mut self, c: Channel, register: Register, value: u32) -> Result<(), Refusal>
+        requires { value < 0x1000000 }
         ensures value { result ≡ answer (row_refusal (row_at self.old.rows c) register value) }
         ensures after { state_of self.new ≡ unless (row_refusal (row_at self.old.rows c) register value) (state_of self.old) (change (state_of self.old) c (λ r. row_set r register value)) }
     {
-        let mut rows = self.rows;
-        let row = &mut rows[c as usize];
-        let answer = row.set(register, value);
-        self.rows = rows;
-        answer
+        self.change_row(c, |row| row.set(register, value))
     }
 
     // The offsets can be set at any time; the status can only be read.
@@ -67,7 +64,7 @@ impl Bank {
             return Err(Refusal::ValueTooLarge);
         }
         match register.channel() {
-            Some(c) => self.set_row(c, register, value),
+            Some(c) => self.set_row(Channel::try_from(c)?, register, value),
             None => self.set_shared(register, value),
         }
     }
