@@ -27,14 +27,6 @@ impl Register {
 }
 
 impl Bank {
-    fn set_row(&mut self, c: Channel, register: Register, value: u32) -> Result<(), Refusal>
-        requires { value < 0x1000000 }
-        ensures value { result ≡ answer (row_refusal (row_at self.old.rows c) register value) }
-        ensures after { state_of self.new ≡ unless (row_refusal (row_at self.old.rows c) register value) (state_of self.old) (change (state_of self.old) c (λ r. row_set r register value)) }
-    {
-        self.change_row(c, |row| row.set(register, value))
-    }
-
     // The offsets can be set at any time; the status can only be read.
     fn set_shared(&mut self, register: Register, value: u32) -> Result<(), Refusal>
         requires { (unknown register ≡ false) × (value < 0x1000000) }
@@ -64,7 +56,7 @@ impl Bank {
             return Err(Refusal::ValueTooLarge);
         }
         match register.channel() {
-            Some(c) => self.set_row(Channel::try_from(c)?, register, value),
+            Some(c) => self.change_row(Channel::try_from(c)?, |row| row.set(register, value)),
             None => self.set_shared(register, value),
         }
     }
