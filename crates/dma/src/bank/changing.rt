@@ -14,7 +14,11 @@ use memory::refusal::Refusal;
 
 impl Bank {
     // The row is lent out of a copy of the table, which is then written back whole.
-    pub(crate) fn change_row<F: FnOnce(&mut Row) -> Result<(), Refusal>>(&mut self, channel: Channel, change: F) -> Result<(), Refusal>
+    pub(crate) fn change_row<F: FnOnce(&mut Row) -> Result<(), Refusal>>(
+        &mut self,
+        channel: Channel,
+        change: F,
+    ) -> Result<(), Refusal>
         requires callable { F.IsAlwaysCallable change }
         requires leaves_sound { (answer : _) (row : Row) → FnOnceReturnsAtMut F.FnOnce change (row_at self.old.rows channel) answer row → sound row ≡ true }
         ensures changed { (row : Row) × FnOnceReturnsAtMut F.FnOnce change (row_at self.old.rows channel) result row × (state_of self.new ≡ with_row (state_of self.old) channel row) }

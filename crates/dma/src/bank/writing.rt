@@ -1,9 +1,7 @@
 // Setting the registers.
-ghost use Rattle.std.specs.Prelude.{◌≡◌, ◌<◌, false};
+ghost use Rattle.std.specs.Prelude.{◌≡◌, ◌<◌};
 ghost use Rattle.dma.specs.Banks.{state_of};
-ghost use Rattle.dma.specs.Refusing.{answer, unless};
-ghost use Rattle.dma.specs.Sets.{unknown, channel_of, row_refusal, row_set, change, shared_refusal, shared_set, set_answer, after_set};
-ghost use Rattle.dma.specs.State.{row_at};
+ghost use Rattle.dma.specs.Sets.{channel_of, with_offset, set_answer, after_set};
 
 use crate::bank::Bank;
 use crate::channel::Channel;
@@ -27,22 +25,14 @@ impl Register {
 }
 
 impl Bank {
-    // The offsets can be set at any time; the status can only be read.
-    fn set_shared(&mut self, register: Register, value: u32) -> Result<(), Refusal>
-        requires { (unknown register ≡ false) × (value < 0x1000000) }
-        ensures value { result ≡ answer (shared_refusal register) }
-        ensures after { state_of self.new ≡ shared_set (state_of self.old) register value }
+    // An offset can be set at any time.
+    fn set_offset(&mut self, i: u8, value: u32)
+        requires { (i < 4) × (value < 0x1000000) }
+        ensures after { state_of self.new ≡ with_offset (state_of self.old) i value }
     {
-        match register {
-            Register::Dor(i) => {
-                let mut offsets = self.offsets;
-                offsets[i as usize] = value;
-                self.offsets = offsets;
-                Ok(())
-            }
-            Register::Dstr => Err(Refusal::StatusIsRead),
-            Register::Dsr(_) | Register::Ddr(_) | Register::Dco(_) | Register::Dcr(_) => Ok(()),
-        }
+        let mut offsets = self.offsets;
+        offsets[i as usize] = value;
+        self.offsets = offsets;
     }
 
     pub fn set(&mut self, register: Register, value: u32) -> Result<(), Refusal>
@@ -55,9 +45,14 @@ impl Bank {
         if value > 0xFF_FFFF {
             return Err(Refusal::ValueTooLarge);
         }
-        match register.channel() {
-            Some(c) => self.change_row(Channel::try_from(c)?, |row| row.set(register, value)),
-            None => self.set_shared(register, value),
+        match register {
+            Register::Dsr(c) | Register::Ddr(c) | Register::Dco(c) | Register::Dcr(c) =>
+                self.change_row(Channel::try_from(c)?, |row| row.set(register, value)),
+            Register::Dor(i) => {
+                self.set_offset(i, value);
+                Ok(())
+            }
+            Register::Dstr => Err(Refusal::StatusIsRead),
         }
     }
 }
