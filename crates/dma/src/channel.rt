@@ -5,6 +5,9 @@ ghost use Rattle.memory.specs.declared.refusal.Refusal.TheVariants.{NoSuchRegist
 use memory::refusal::Refusal;
 use std::marker::Model;
 
+#[cfg(test)]
+mod tests;
+
 #[derive(Clone, Copy, PartialEq, Eq, Debug)]
 pub struct Channel {
     number: u8,
