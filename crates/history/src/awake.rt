@@ -11,6 +11,7 @@ ghost use Rattle.dma.specs.Stops.{lost, after_stop};
 ghost use Rattle.history.specs.Open.{tied};
 ghost use Rattle.history.specs.Returns.{finish_refusal, after_finish};
 
+use dma::channel::Channel;
 use dma::controller::{Controller, Stopped};
 use dma::register::{Masks, Register};
 use dma::service::Service;
@@ -37,7 +38,7 @@ impl Awake {
     {
         Awake {
             controller: Controller::reset(),
-            services: [None, None, None, None, None, None],
+            services: std::array::from_fn(|_| None),
         }
     }
 
@@ -70,28 +71,23 @@ impl Awake {
             mut controller,
             mut services,
         } = self;
-        match controller.begin(channel) {
+        let answer = match controller.begin(channel) {
             Ok(service) => {
                 let place = &mut services[channel as usize];
                 match place.replace(service) {
-                    None => (
-                        Awake {
-                            controller,
-                            services,
-                        },
-                        Ok(()),
-                    ),
+                    None => Ok(()),
                     Some(_old) => unreachable(),
                 }
             }
-            Err(refusal) => (
-                Awake {
-                    controller,
-                    services,
-                },
-                Err(refusal),
-            ),
-        }
+            Err(refusal) => Err(refusal),
+        };
+        (
+            Awake {
+                controller,
+                services,
+            },
+            answer,
+        )
     }
 
     // Gives the token of the channel back.
@@ -99,14 +95,13 @@ impl Awake {
         ensures value { result.1 ≡ answer (finish_refusal (state self.controller) channel) }
         ensures after { state result.0.controller ≡ after_finish (state self.controller) channel }
     {
-        if channel > 5 {
-            return (self, Err(Refusal::NoSuchRegister));
+        match Channel::try_from(channel) {
+            Ok(channel) => self.finish_channel(channel),
+            Err(refusal) => (self, Err(refusal)),
         }
-        self.finish_channel(channel)
     }
 
-    fn finish_channel(self, channel: u8) -> (Awake, Result<(), Refusal>)
-        requires { channel < 6 }
+    fn finish_channel(self, channel: Channel) -> (Awake, Result<(), Refusal>)
         ensures value { result.1 ≡ answer (return_refusal (state self.controller) channel) }
         ensures after { state result.0.controller ≡ after_return (state self.controller) channel }
     {
@@ -114,26 +109,21 @@ impl Awake {
             mut controller,
             mut services,
         } = self;
-        let place = &mut services[channel as usize];
-        match place.take() {
-            None => (
-                Awake {
-                    controller,
-                    services,
-                },
-                Err(Refusal::NoService),
-            ),
+        let place = &mut services[channel.number() as usize];
+        let answer = match place.take() {
+            None => Err(Refusal::NoService),
             Some(service) => match controller.finish(service) {
-                Ok(()) => (
-                    Awake {
-                        controller,
-                        services,
-                    },
-                    Ok(()),
-                ),
+                Ok(()) => Ok(()),
                 Err(_back) => unreachable(),
             },
-        }
+        };
+        (
+            Awake {
+                controller,
+                services,
+            },
+            answer,
+        )
     }
 
     // The tokens of a device with no open service.

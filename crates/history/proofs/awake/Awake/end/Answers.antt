@@ -5,7 +5,7 @@ use Rattle.history.proofs.awake.Awake.end.Goals as goal
 pub loop-channel-preserved : goal.loop-channel-preserved
 loop-channel-preserved c =
     let d = c.loop-channel.device in
-    closed_below (state d.controller) _ c.loop-channel.channel c.loop-channel-test.true d.channels c.finish.ensures.after c.loop-channel.invariant
+    closed_below (state d.controller) _ c.loop-channel.channel c.loop-channel-test.true d.channels c.finish-next.ensures.after c.loop-channel.invariant
 
 pub into_services-requires : goal.into_services-requires
 into_services-requires c =
