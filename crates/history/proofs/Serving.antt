@@ -16,7 +16,7 @@ use Rattle.dma.specs.Services.{return_refusal, after_return, returned}
 use Rattle.dma.specs.Sets.{after_control, switched_off, with_control, change, set_refusal, set_state, after_set}
 use Rattle.dma.specs.State.{State, reset_row, row_at}
 use Rattle.dma.specs.Stops.{halted, after_stop}
-use Rattle.history.specs.Open.{stands_for, tied}
+use Rattle.history.specs.Open.{stands_for, tied, Tied}
 
 -- as many rows, and each as much in service as before
 pub record SameServices (rows after : List Row) : Type 0 where
@@ -99,17 +99,12 @@ module _ (services : List (Option Service)) (rows after : List Row) (same : Same
   pub still_tied : ((k : ℕ) → tied services rows k ≡ true) → (k : ℕ) → tied services after k ≡ true
   still_tied all k = ap (stands_for (get_or services k None) k) (same.serving k) ∙ all k
 
--- what a device keeps: six rows, and each token tied to its row
-pub record Tied (services : List (Option Service)) (rows : List Row) : Type 0 where
-  pub channels : length rows ≡ 6
-  pub tokens : (k : ℕ) → tied services rows k ≡ true
-
-pub kept : (services : List (Option Service)) (s t u : State) → u ≡ t → SameServices s.rows t.rows → length s.rows ≡ 6 → ((k : ℕ) → tied services s.rows k ≡ true) → Tied services u.rows
-kept services s t u e same six all =
+pub kept : (services : List (Option Service)) (s t u : State) → u ≡ t → SameServices s.rows t.rows → Tied services s.rows → Tied services u.rows
+kept services s t u e same was =
     subst
     (λ (v : State). Tied services v.rows)
     (sym e)
-    record { channels = still_six services s.rows t.rows same six; tokens = still_tied services s.rows t.rows same all }
+    record { channels = still_six services s.rows t.rows same was.channels; tokens = still_tied services s.rows t.rows same was.tokens }
 
 -- the token of a channel is its own, and stands for an open service
 pub own_token : (services : List (Option Service)) (rows : List Row) (c : ℕ) (service : Service) → get_or services c None ≡ Some service → tied services rows c ≡ true → ((row_at rows c).serving ≡ true) × (service.channel ≡ c)
@@ -141,8 +136,10 @@ never_handed_back s c d refusal e same h =
     omega arith
 
 -- a return takes the token away and closes the service
-pub token_spent : (services : List (Option Service)) (s u : State) (c : ℕ) (service : Service) (token : Option Service) → token ≡ None → u ≡ after_return s service.channel → get_or services c None ≡ Some service → c < length services → c < 6 → length s.rows ≡ 6 → ((k : ℕ) → tied services s.rows k ≡ true) → Tied (set services c token) u.rows
-token_spent services s u c service token gone e held inside below six all =
+pub token_spent : (services : List (Option Service)) (s u : State) (c : ℕ) (service : Service) (token : Option Service) → token ≡ None → u ≡ after_return s service.channel → get_or services c None ≡ Some service → c < length services → c < 6 → Tied services s.rows → Tied (set services c token) u.rows
+token_spent services s u c service token gone e held inside below was =
+    let six = was.channels in
+    let all = was.tokens in
     let own = own_token services s.rows c service held (all c) in
     let closed : u ≡ change s c returned = e ∙ ap (after_return s) own.1 ∙ ap (λ o. unless o s (change s c returned)) (while_open s c own.0) in
     let within : c < length s.rows = omega arith in

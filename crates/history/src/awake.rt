@@ -8,7 +8,7 @@ ghost use Rattle.dma.specs.Services.{begin_refusal, after_begin, return_refusal,
 ghost use Rattle.dma.specs.Sets.{set_answer, after_set};
 ghost use Rattle.dma.specs.State.{reset, row_at};
 ghost use Rattle.dma.specs.Stops.{lost, after_stop};
-ghost use Rattle.history.specs.Open.{tied};
+ghost use Rattle.history.specs.Open.{Tied};
 ghost use Rattle.history.specs.Returns.{finish_refusal, after_finish};
 
 use dma::channel::Channel;
@@ -21,15 +21,13 @@ use memory::refusal::Refusal;
 pub struct Awake {
     controller: Controller,
     services: [Option<Service>; 6],
-    ghost channels: { length (state controller).rows ≡ 6 },
-    ghost tokens: { (k : ℕ) → tied services (state controller).rows k ≡ true },
+    ghost tied: { Tied services (state controller).rows },
 }
 
 pub struct Asleep {
     controller: Stopped,
     services: [Option<Service>; 6],
-    ghost channels: { length (stopped_state controller).rows ≡ 6 },
-    ghost tokens: { (k : ℕ) → tied services (stopped_state controller).rows k ≡ true },
+    ghost tied: { Tied services (stopped_state controller).rows },
 }
 
 impl Awake {

@@ -18,8 +18,7 @@ invariant_of-result c =
       | in-None w ↦ search rules
       | in-Some+in-Ok w ↦
           let held = token_held d.services c.number.result _ _ _ inside c.take.ensures.value w.in-Some.is in
-          let still = token_spent d.services (state d.controller) (state c.match-take.controller) c.number.result w.in-Some.service _ c.take.ensures.after (ap state w.controller-is ∙ w.finish.ensures.after) held inside below d.channels d.tokens in
-          record { channels = still.channels; tokens = still.tokens }
+          record { tied = token_spent d.services (state d.controller) (state c.match-take.controller) c.number.result w.in-Some.service _ c.take.ensures.after (ap state w.controller-is ∙ w.finish.ensures.after) held inside below d.tied }
     ]
 
 pub unreachable-requires : goal.unreachable-requires
@@ -28,5 +27,5 @@ unreachable-requires c =
     let below = c.number.ensures.below in
     let inside : c.number.result < length d.services = omega arith in
     let held = token_held d.services c.number.result _ _ _ inside c.take.ensures.value c.in-Some.is in
-    let own = own_token d.services (state d.controller).rows c.number.result c.in-Some.service held (d.tokens c.number.result) in
+    let own = own_token d.services (state d.controller).rows c.number.result c.in-Some.service held (d.tied.tokens c.number.result) in
     never_handed_back (state d.controller) c.number.result _ _ own.0 own.1 c.in-Err.ensures.value.0
