@@ -1,14 +1,19 @@
 -- Returning every channel's service in turn leaves none open.
-use Rattle.std.proofs.Common.{◌≡◌, ℕ, ◌+◌, ◌<◌, ◌≤◌, Bool, true, false, cond, ◌≢◌, List, length, set, Some, None, sym, refl, ap, ◌∙◌, subst, ⊎_elim, arith}
-use Rattle.std.proofs.lemmas.List.{get_or_past, get_or-set_same, get_or-set_other}
+use Rattle.std.proofs.Common.{◌≡◌, ℕ, ◌+◌, ◌<◌, ◌≤◌, Bool, true, false, cond, ◌≢◌, List, length, get_or, set, Some, None, Option, sym, refl, ap, ◌∙◌, subst, ⊎_elim, arith}
+use Rattle.std.proofs.lemmas.List.{get_or_default, get_or_past, get_or-set_same, get_or-set_other}
 use Rattle.std.proofs.lemmas.Bool.{cases_eq, cases_lt, le-ltb}
 use Rattle.memory.specs.declared.refusal.Refusal.TheVariants.{NoService}
 use Rattle.dma.specs.declared.row.Row.{Row}
+use Rattle.dma.specs.declared.service.Service.{Service}
 use Rattle.dma.specs.Refusing.{unless}
 use Rattle.dma.specs.Services.{after_return, returned}
 use Rattle.dma.specs.Sets.{change}
 use Rattle.dma.specs.State.{State, reset_row, row_at}
 use Rattle.history.specs.Returns.{after_finish}
+
+-- an absent token is absent whatever stands for it past the end
+pub absent_at : (services : List (Option Service)) (k : ℕ) (read : Option Service) → ((j : ℕ) → get_or services j None ≡ None) → k < length services → get_or services k read ≡ None
+absent_at services k read all inside = get_or_default services k read None inside ∙ all k
 
 returned_row : (rows : List Row) (c k : ℕ) → c < length rows → (k ≢ c → (row_at rows k).serving ≡ false) → (row_at (set rows c (returned (row_at rows c))) k).serving ≡ false
 returned_row rows c k within others =

@@ -11,6 +11,7 @@ ghost use Rattle.dma.specs.Stops.{lost, after_stop};
 ghost use Rattle.history.specs.Open.{Tied};
 ghost use Rattle.history.specs.Returns.{finish_refusal, after_finish};
 
+use crate::ending::absent;
 use dma::channel::Channel;
 use dma::controller::{Controller, Stopped};
 use dma::register::{Masks, Register};
@@ -72,10 +73,8 @@ impl Awake {
         let answer = match controller.begin(channel) {
             Ok(service) => {
                 let place = &mut services[channel as usize];
-                match place.replace(service) {
-                    None => Ok(()),
-                    Some(_old) => unreachable(),
-                }
+                absent(place.replace(service));
+                Ok(())
             }
             Err(refusal) => Err(refusal),
         };
