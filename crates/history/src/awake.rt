@@ -6,7 +6,7 @@ ghost use Rattle.dma.specs.Reads.{get_answer};
 ghost use Rattle.dma.specs.Refusing.{answer};
 ghost use Rattle.dma.specs.Services.{begin_refusal, after_begin, return_refusal, after_return};
 ghost use Rattle.dma.specs.Sets.{set_answer, after_set};
-ghost use Rattle.dma.specs.State.{reset, row_at};
+ghost use Rattle.dma.specs.State.{State, reset, row_at};
 ghost use Rattle.dma.specs.Stops.{lost, after_stop};
 ghost use Rattle.history.specs.Open.{Tied};
 ghost use Rattle.history.specs.Returns.{finish_refusal, after_finish};
@@ -18,18 +18,29 @@ use dma::register::{Masks, Register};
 use dma::service::Service;
 use memory::refusal::Refusal;
 
-// The k-th token is there exactly while the service of channel k is open.
-pub struct Awake {
-    controller: Controller,
-    services: [Option<Service>; 6],
-    ghost tied: { Tied services (state controller).rows },
+// A controller, awake or stopped.
+pub trait Held {
+    ghost held: { Self → State };
 }
 
-pub struct Asleep {
-    controller: Stopped,
-    services: [Option<Service>; 6],
-    ghost tied: { Tied services (stopped_state controller).rows },
+impl Held for Controller {
+    ghost held = { state };
 }
+
+impl Held for Stopped {
+    ghost held = { stopped_state };
+}
+
+// The k-th token is there exactly while the service of channel k is open.
+pub struct Holding<C: Held> {
+    controller: C,
+    services: [Option<Service>; 6],
+    ghost tied: { Tied services (C.held controller).rows },
+}
+
+pub type Awake = Holding<Controller>;
+
+pub type Asleep = Holding<Stopped>;
 
 impl Awake {
     pub fn reset() -> Awake

@@ -1,6 +1,6 @@
 use Rattle.dma.specs.Controllers.{state}
 use Rattle.history.proofs.Closing.{closed_below, closed_everywhere}
-use Rattle.history.proofs.awake.Awake.end.Goals as goal
+use Rattle.history.proofs.ending.Awake.end.Goals as goal
 
 pub loop-channel-preserved : goal.loop-channel-preserved
 loop-channel-preserved c =
