@@ -1,9 +1,8 @@
 -- Which calls leave every service as it is.
-use Rattle.std.proofs.Common.{◌≡◌, ℕ, ◌<◌, ◌≤◌, Bool, true, false, cond, ◌&&◌, eqb, List, map, length, get_or, set, Some, None, Option, sym, refl, ap, ◌∙◌, subst, ⊎_elim, arith}
+use Rattle.std.proofs.Common.{◌≡◌, ℕ, ◌≤◌, Bool, true, false, cond, eqb, List, map, length, get_or, set, Some, None, Option, sym, refl, ap, ◌∙◌, subst, ⊎_elim}
 use Rattle.std.proofs.lemmas.List.{get_or_past, get_or-set_same, get_or-set_other, set_past, length-map, length-set, get_or-map}
-use Rattle.std.proofs.lemmas.Bool.{cases_eq, cases_lt, and_parts, eqb-true}
+use Rattle.std.proofs.lemmas.Bool.{cases_eq, cases_lt}
 use Rattle.memory.specs.declared.refusal.Refusal.{Refusal}
-use Rattle.memory.specs.declared.refusal.Refusal.TheVariants.{NoService}
 use Rattle.registers.specs.Control.{enable}
 use Rattle.dma.specs.declared.register.Register.{Register}
 use Rattle.dma.specs.declared.register.Register.TheVariants.{Dsr, Ddr, Dco, Dcr, Dor, Dstr}
@@ -12,8 +11,7 @@ use Rattle.dma.specs.declared.service.Service.{Service}
 use Rattle.dma.specs.Channels.{settings, by_words, captures}
 use Rattle.dma.specs.Raises.{no_such_source, asked, after_raise, raised}
 use Rattle.dma.specs.Refusing.{unless}
-use Rattle.dma.specs.Services.{return_refusal, after_return, returned}
-use Rattle.dma.specs.Sets.{after_control, switched_off, with_control, change, set_refusal, set_state, after_set}
+use Rattle.dma.specs.Sets.{after_control, switched_off, with_control, set_refusal, set_state, after_set}
 use Rattle.dma.specs.State.{State, reset_row, row_at}
 use Rattle.dma.specs.Stops.{halted, after_stop}
 use Rattle.history.specs.Open.{stands_for, tied, Tied}
@@ -105,48 +103,3 @@ kept services s t u e same was =
     (λ (v : State). Tied services v.rows)
     (sym e)
     record { channels = still_six services s.rows t.rows same was.channels; tokens = still_tied services s.rows t.rows same was.tokens }
-
--- the token of a channel is its own, and stands for an open service
-pub own_token : (services : List (Option Service)) (rows : List Row) (c : ℕ) (service : Service) → get_or services c None ≡ Some service → tied services rows c ≡ true → ((row_at rows c).serving ≡ true) × (service.channel ≡ c)
-own_token services rows c service e all =
-    let both : ((row_at rows c).serving && eqb service.channel c) ≡ true = ap (λ t. stands_for t c (row_at rows c).serving) (sym e) ∙ all in
-    let parts = and_parts (row_at rows c).serving _ both in
-    (parts.0, eqb-true _ _ parts.1)
-
--- a token and its row changed together stay tied
-pub both_changed : (services : List (Option Service)) (rows : List Row) (c : ℕ) (token : Option Service) (r : Row) → c < length services → c < length rows → stands_for token c r.serving ≡ true → ((k : ℕ) → tied services rows k ≡ true) → (k : ℕ) → tied (set services c token) (set rows c r) k ≡ true
-both_changed services rows c token r inside within stands all k =
-    ⊎_elim
-    (λ same. subst
-    (λ j. tied (set services c token) (set rows c r) j ≡ true)
-    (sym same)
-    ((λ i. stands_for (get_or-set_same services c token None inside i) c (get_or-set_same rows c r reset_row within i).serving) ∙ stands))
-    (λ other. (λ i. stands_for (get_or-set_other services c k token None other i) k (get_or-set_other rows c k r reset_row other i).serving) ∙ all k)
-    (cases_eq k c)
-
-while_open : (s : State) (c : ℕ) → (row_at s.rows c).serving ≡ true → return_refusal s c ≡ None
-while_open s c e = ap (λ b. cond b None (Some NoService)) e
-
--- a return of an open service is never refused
-pub never_handed_back : (s : State) (c d : ℕ) (refusal : Refusal) → (row_at s.rows c).serving ≡ true → d ≡ c → return_refusal s d ≡ Some refusal → ⊥
-never_handed_back s c d refusal e same h =
-    let taken : return_refusal s c ≡ None = while_open s c e in
-    let refused : return_refusal s c ≡ Some refusal = subst (λ k. return_refusal s k ≡ Some refusal) same h in
-    let z : ◌≡◌ {A = ℕ} 0 1 = cc in
-    omega arith
-
--- a return takes the token away and closes the service
-pub token_spent : (services : List (Option Service)) (s u : State) (c : ℕ) (service : Service) (token : Option Service) → token ≡ None → u ≡ after_return s service.channel → get_or services c None ≡ Some service → c < length services → c < 6 → Tied services s.rows → Tied (set services c token) u.rows
-token_spent services s u c service token gone e held inside below was =
-    let six = was.channels in
-    let all = was.tokens in
-    let own = own_token services s.rows c service held (all c) in
-    let closed : u ≡ change s c returned = e ∙ ap (after_return s) own.1 ∙ ap (λ o. unless o s (change s c returned)) (while_open s c own.0) in
-    let within : c < length s.rows = omega arith in
-    subst
-    (λ (v : State). Tied (set services c token) v.rows)
-    (sym closed)
-    record {
-      channels = length-set s.rows c _ ∙ six;
-      tokens = subst (λ t. (k : ℕ) → tied (set services c t) (change s c returned).rows k ≡ true) (sym gone) (both_changed services s.rows c None _ inside within refl all);
-    }

@@ -36,7 +36,6 @@ pub(crate) fn absent(token: Option<Service>)
 }
 
 // One by one: an array has no `map` and no iterator by value where its elements cannot be let go.
-#[tactic(auto, using(crate::proofs::Closing::absent_at))]
 fn all_absent(services: [Option<Service>; 6])
     requires { (k : ℕ) → slice_index_or services k None ≡ None }
 {
