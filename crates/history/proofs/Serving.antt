@@ -1,7 +1,7 @@
 -- Which calls leave every service as it is.
-use Rattle.std.proofs.Common.{◌≡◌, ℕ, ◌≤◌, Bool, true, false, cond, eqb, List, map, length, get_or, set, Some, None, Option, sym, refl, ap, ◌∙◌, subst, ⊎_elim}
-use Rattle.std.proofs.lemmas.List.{get_or_past, get_or-set_same, get_or-set_other, set_past, length-map, length-set, get_or-map}
-use Rattle.std.proofs.lemmas.Bool.{cases_eq, cases_lt}
+use Rattle.std.proofs.Common.{arith, ◌≡◌, ℕ, Bool, true, false, cond, eqb, List, map, length, get_or, set, Some, None, Option, sym, refl, ap, ◌∙◌, subst}
+use Rattle.std.proofs.lemmas.List.{length-map, length-set}
+use Rattle.std.proofs.lemmas.Grind.{common_steps}
 use Rattle.memory.specs.declared.refusal.Refusal.{Refusal}
 use Rattle.registers.specs.Control.{enable}
 use Rattle.dma.specs.declared.register.Register.{Register}
@@ -12,9 +12,9 @@ use Rattle.dma.specs.Channels.{settings, by_words, captures}
 use Rattle.dma.specs.Raises.{no_such_source, asked, after_raise, raised}
 use Rattle.dma.specs.Refusing.{unless}
 use Rattle.dma.specs.Sets.{after_control, switched_off, with_control, set_refusal, set_state, after_set}
-use Rattle.dma.specs.State.{State, reset_row, row_at}
+use Rattle.dma.specs.State.{State, row_at}
 use Rattle.dma.specs.Stops.{halted, after_stop}
-use Rattle.history.specs.Open.{stands_for, tied, Tied}
+use Rattle.history.specs.Open.{stands_for, Tied}
 
 -- as many rows, and each as much in service as before
 pub record SameServices (rows after : List Row) : Type 0 where
@@ -25,29 +25,10 @@ pub unchanged : (rows : List Row) → SameServices rows rows
 unchanged rows = record { count = refl; serving = λ k. refl }
 
 row_replaced : (rows : List Row) (c : ℕ) (r : Row) → r.serving ≡ (row_at rows c).serving → SameServices rows (set rows c r)
-row_replaced rows c r e = record {
-  count = length-set rows c r;
-  serving = λ k.
-      ⊎_elim
-      (λ same. ⊎_elim
-      (λ h. ap (λ j. (row_at (set rows c r) j).serving) same ∙ ap (λ (x : Row). x.serving) (get_or-set_same rows c r reset_row h) ∙ e ∙ ap (λ j. (row_at rows j).serving) (sym same))
-      (λ h. ap (λ l. (row_at l k).serving) (set_past rows c r h))
-      (cases_lt c (length rows)))
-      (λ other. ap (λ (x : Row). x.serving) (get_or-set_other rows c k r reset_row other))
-      (cases_eq k c);
-}
+row_replaced rows c r e = record { count = length-set rows c r; serving = λ k. grind (arith, common_steps) }
 
 rows_mapped : (rows : List Row) (f : Row → Row) → ((r : Row) → (f r).serving ≡ r.serving) → SameServices rows (map f rows)
-rows_mapped rows f keeps = record {
-  count = simp length-map;
-  serving = λ k.
-      ⊎_elim
-      (λ h. ap (λ (x : Row). x.serving) (get_or-map f rows k reset_row reset_row h) ∙ keeps (row_at rows k))
-      (λ h.
-      let past : length (map f rows) ≤ k = simp length-map h in
-      ap (λ (x : Row). x.serving) (get_or_past (map f rows) k reset_row past ∙ sym (get_or_past rows k reset_row h)))
-      (cases_lt k (length rows));
-}
+rows_mapped rows f keeps = record { count = simp length-map; serving = λ k. grind (arith, common_steps, keeps) }
 
 either_row : (b : Bool) (x y r : Row) → x.serving ≡ r.serving → y.serving ≡ r.serving → (cond b x y).serving ≡ r.serving
 either_row true x y r p q = p
@@ -90,16 +71,9 @@ pub stop_serves : (s : State) → SameServices s.rows (after_stop s).rows
 stop_serves s = rows_mapped s.rows halted (λ r. refl)
 
 -- tokens stay tied to rows that are as much in service as before
-module _ (services : List (Option Service)) (rows after : List Row) (same : SameServices rows after) where
-  pub still_six : length rows ≡ 6 → length after ≡ 6
-  still_six six = same.count ∙ six
-
-  pub still_tied : ((k : ℕ) → tied services rows k ≡ true) → (k : ℕ) → tied services after k ≡ true
-  still_tied all k = ap (stands_for (get_or services k None) k) (same.serving k) ∙ all k
-
 pub kept : (services : List (Option Service)) (s t u : State) → u ≡ t → SameServices s.rows t.rows → Tied services s.rows → Tied services u.rows
 kept services s t u e same was =
     subst
     (λ (v : State). Tied services v.rows)
     (sym e)
-    record { channels = still_six services s.rows t.rows same was.channels; tokens = still_tied services s.rows t.rows same was.tokens }
+    record { channels = same.count ∙ was.channels; tokens = λ k. ap (stands_for (get_or services k None) k) (same.serving k) ∙ was.tokens k }
