@@ -1,11 +1,11 @@
 -- One row of the table is changed by a call that may be refused.
 use Rattle.std.proofs.Common.{◌≡◌, ℕ, ◌^◌, ◌<◌, ◌≤◌, Bool, true, false, cond, ◌||◌, List, map, length, sum_by, set, is_some, Some, None, Option, unwrap_or, sym, refl, ap, ◌∙◌, subst, zero-le, arith}
 use Rattle.std.proofs.lemmas.List.{set-get_or}
-use Rattle.std.proofs.lemmas.Bool.{and_parts, and_from, both_ways, cond_both}
+use Rattle.std.proofs.lemmas.Bool.{and_parts, and_from, both_ways, cond_both, le-ltb}
 use Rattle.std.proofs.lemmas.List.Elements.{All-from_get_or}
 use Rattle.std.proofs.lemmas.List.Sums.{sum_by-le}
 use Rattle.memory.specs.declared.refusal.Refusal.{Refusal}
-use Rattle.memory.specs.declared.refusal.Refusal.TheVariants.{Busy}
+use Rattle.memory.specs.declared.refusal.Refusal.TheVariants.{NoSuchRegister, ValueTooLarge, Busy}
 use Rattle.registers.specs.declared.register.Register.{Register}
 use Rattle.registers.specs.declared.register.Register.TheVariants.{Dsr, Ddr, Dco, Dcr, Dor, Dstr}
 use Rattle.dma.specs.declared.row.Row.{Row}
@@ -18,16 +18,13 @@ use Rattle.dma.specs.Channels.{zero_settings, settings, layout, preloaded, count
 use Rattle.dma.specs.Raises.{asked}
 use Rattle.dma.specs.Stops.{halted}
 use Rattle.dma.specs.Refusing.{unless}
-use Rattle.dma.specs.Sets.{row_refusal, row_set, change}
+use Rattle.dma.specs.Sets.{unknown, channel_of, row_refusal, row_set, with_row, change, shared_refusal, shared_set, set_refusal, after_set}
 use Rattle.dma.specs.Services.{with_service}
 use Rattle.dma.specs.Soundness.{sound}
 use Rattle.dma.specs.State.{State, reset_row, row_at}
 use Rattle.dma.proofs.ControlSets.{made_due_fits, control_set}
 use Rattle.dma.proofs.Tables.{all_of_set, all_of_map}
 use Rattle.dma.proofs.SoundRows.{Sound, opened, closed, source_set, destination_set, counter_set}
-
-abbrev with_row : State → ℕ → Row → State
-with_row s c r = record { rows = set s.rows c r; offsets = s.offsets; last = s.last }
 
 pub row_changed : (s : State) (c : ℕ) (o : Option Refusal) (f : Row → Row) (r : Row) → r ≡ unless o (row_at s.rows c) (f (row_at s.rows c)) → with_row s c r ≡ unless o s (change s c f)
 row_changed s c None f r e = ap (with_row s c) e
@@ -41,6 +38,19 @@ kept_or P (Some refusal) r n old new = old
 pub sound_unless : (o : Option Refusal) (r n q : Row) → q ≡ unless o r n → sound r ≡ true → (o ≡ None → Sound r → Sound n) → sound q ≡ true
 sound_unless o r n q e s keeps =
     subst (λ x. sound x ≡ true) (sym e) (kept_or (λ x. sound x ≡ true) o r n s (λ none. closed n (keeps none (opened r s))))
+
+-- a set of a channel's register, by the row that it leaves
+module _ (s : State) (register : Register) (value c : ℕ) (known : unknown register ≡ false) (fits : value ≤ 0xFFFFFF) (own : channel_of register ≡ Some c) where
+  refused_as_the_row : set_refusal s register value ≡ row_refusal (row_at s.rows c) register value
+  refused_as_the_row = λ i.
+      cond (known i) (Some NoSuchRegister)
+      (cond (le-ltb 0xFFFFFF value fits i) (Some ValueTooLarge)
+      (elim (own i) [ Some d ↦ row_refusal (row_at s.rows d) register value | None ↦ shared_refusal register ]))
+
+  pub channel_set : (row : Row) → row ≡ unless (row_refusal (row_at s.rows c) register value) (row_at s.rows c) (row_set (row_at s.rows c) register value) → with_row s c row ≡ after_set s register value
+  channel_set row e =
+      row_changed s c _ (λ r. row_set r register value) row e
+      ∙ (λ i. unless (sym refused_as_the_row i) s (elim (sym own i) [ Some d ↦ change s d (λ r. row_set r register value) | None ↦ shared_set s register value ]))
 
 not_busy : (e a : Bool) → cond (e || a) (Some Busy) None ≡ None → a ≡ false
 not_busy true a h = absurd (let z : ◌≡◌ {A = ℕ} 0 1 = cc in omega arith)

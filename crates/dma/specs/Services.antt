@@ -1,5 +1,5 @@
 -- Interrupts and their services.
-use Rattle.std.specs.Prelude.{ℕ, Bool, true, false, cond, not, Some, None, Option, nat_lt}
+use Rattle.std.specs.Prelude.{ℕ, Bool, true, false, if◌then◌else◌, not, Some, None, Option, nat_lt}
 use Rattle.memory.specs.declared.refusal.Refusal.{Refusal}
 use Rattle.memory.specs.declared.refusal.Refusal.TheVariants.{NoSuchRegister, NoInterrupt, InService, NoService}
 use Rattle.dma.specs.declared.row.Row.{Row}
@@ -8,34 +8,24 @@ use Rattle.dma.specs.Refusing.{unless}
 use Rattle.dma.specs.State.{State, row_at}
 
 abbrev pub with_service : Row → Bool → Bool → Row
-with_service r requested serving = record {
-  source = r.source;
-  destination = r.destination;
-  count = r.count;
-  preload = r.preload;
-  control = r.control;
-  due = r.due;
-  active = r.active;
-  requested = requested;
-  serving = serving;
-}
+with_service r requested serving = record r { requested = requested; serving = serving }
 
 -- a service begins only where an interrupt is requested, and one at a time
 abbrev pub begin_row_refusal : Row → Option Refusal
-begin_row_refusal r = cond (not r.requested) (Some NoInterrupt) (cond r.serving (Some InService) None)
+begin_row_refusal r = if not r.requested then Some NoInterrupt else if r.serving then Some InService else None
 
 -- begin clears the requested interrupt and opens the service
 abbrev pub begun : Row → Row
 begun r = with_service r false true
 
 abbrev pub return_row_refusal : Row → Option Refusal
-return_row_refusal r = cond r.serving None (Some NoService)
+return_row_refusal r = if r.serving then None else Some NoService
 
 abbrev pub returned : Row → Row
 returned r = with_service r r.requested false
 
 abbrev pub begin_refusal : State → ℕ → Option Refusal
-begin_refusal s c = cond (nat_lt 5 c) (Some NoSuchRegister) (begin_row_refusal (row_at s.rows c))
+begin_refusal s c = if nat_lt 5 c then Some NoSuchRegister else begin_row_refusal (row_at s.rows c)
 
 abbrev pub after_begin : State → ℕ → State
 after_begin s c = unless (begin_refusal s c) s (change s c begun)

@@ -148,11 +148,14 @@ row_set r register value =
     ]
 
 -- one row of the table changed
+abbrev pub with_row : State → ℕ → Row → State
+with_row s c r = record s { rows = slice_set s.rows c r }
+
 abbrev pub change : State → ℕ → (Row → Row) → State
-change s c f = record { rows = slice_set s.rows c (f (row_at s.rows c)); offsets = s.offsets; last = s.last }
+change s c f = with_row s c (f (row_at s.rows c))
 
 abbrev pub with_offset : State → ℕ → ℕ → State
-with_offset s i value = record { rows = s.rows; offsets = slice_set s.offsets i value; last = s.last }
+with_offset s i value = record s { offsets = slice_set s.offsets i value }
 
 -- what a set of what the channels share is refused with, and leaves
 abbrev pub shared_refusal : Register → Option Refusal

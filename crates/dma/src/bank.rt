@@ -5,6 +5,7 @@ ghost use Rattle.dma.specs.State.{row_at};
 
 use crate::row::Row;
 
+mod changing;
 mod making;
 mod raising;
 mod reading;

@@ -4,6 +4,7 @@
 pub mod arbitration;
 mod bank;
 pub mod cases;
+pub mod channel;
 pub mod controller;
 pub mod masks;
 pub mod row;

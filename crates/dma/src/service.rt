@@ -1,11 +1,11 @@
 // The open service of a channel's interrupt: it cannot be copied or let go, only given back to the controller.
 ghost use Rattle.std.specs.Prelude.{◌≡◌, ◌<◌};
 
+use crate::channel::Channel;
 use memory::refusal::Refusal;
 
 pub struct Service {
-    channel: u8,
-    ghost a_channel: { channel < 6 },
+    pub(crate) channel: Channel,
 }
 
 // A service that was not taken back, with the reason.
@@ -15,8 +15,7 @@ pub struct HandedBack {
 }
 
 impl Service {
-    pub(crate) fn new(channel: u8) -> Service
-        requires { channel < 6 }
+    pub(crate) fn new(channel: Channel) -> Service
         ensures value { result.channel ≡ channel }
     {
         Service { channel }
@@ -26,7 +25,7 @@ impl Service {
         ensures value { result ≡ self.now.channel }
         ensures below { result < 6 }
     {
-        self.channel
+        self.channel.number()
     }
 
     pub(crate) fn spend(self) {

@@ -1,2 +1,1 @@
 pub mod Serving
-pub mod Closing

@@ -6,22 +6,22 @@ use Rattle.memory.specs.declared.refusal.Refusal.{Refusal}
 use Rattle.history.specs.declared.call.Answer.{Answer}
 use Rattle.history.specs.declared.call.Answer.TheVariants.{Done, Word, Raised, Refused, Fault}
 
+-- an outcome is told by what it holds
+abbrev pub told : {T E : Type 0} → (T → Answer) → (E → Answer) → Result T E → Answer
+told value error (Ok x) = value x
+told value error (Err e) = error e
+
 abbrev pub done : Result (Unit {0}) Refusal → Answer
-done (Ok u) = Done
-done (Err refusal) = Refused refusal
+done = told (λ u. Done) (λ refusal. Refused refusal)
 
 abbrev pub word : Result ℕ Refusal → Answer
-word (Ok w) = Word w
-word (Err refusal) = Refused refusal
+word = told (λ w. Word w) (λ refusal. Refused refusal)
 
 abbrev pub raised : Result Masks Refusal → Answer
-raised (Ok masks) = Raised masks
-raised (Err refusal) = Refused refusal
+raised = told (λ masks. Raised masks) (λ refusal. Refused refusal)
 
 abbrev pub loaded : Result ℕ MemoryFault → Answer
-loaded (Ok w) = Word w
-loaded (Err fault) = Fault fault
+loaded = told (λ w. Word w) (λ fault. Fault fault)
 
 abbrev pub stored : Result (Unit {0}) MemoryFault → Answer
-stored (Ok u) = Done
-stored (Err fault) = Fault fault
+stored = told (λ u. Done) (λ fault. Fault fault)

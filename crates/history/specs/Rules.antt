@@ -1,5 +1,5 @@
 -- The rules of a device: what each call is answered, and what it leaves.
-use Rattle.std.specs.Prelude.{Bool, true, false, cond}
+use Rattle.std.specs.Prelude.{Bool, true, false, if◌then◌else◌}
 use Rattle.memory.specs.declared.refusal.Refusal.TheVariants.{NotNow}
 use Rattle.memory.specs.Meaning.{Meaning, load_answer, store_answer, after_store}
 use Rattle.dma.specs.Raises.{raise_answer, after_raise}
@@ -52,34 +52,20 @@ after_awake s m (Store place w) = record { state = s; awake = true; memory = aft
 
 -- a stopped device takes a wake only
 abbrev pub stopped_answer : Call → Answer
-stopped_answer (Set register value) = Refused NotNow
-stopped_answer (Get register) = Refused NotNow
-stopped_answer (Raise source) = Refused NotNow
-stopped_answer (Begin c) = Refused NotNow
-stopped_answer (Return c) = Refused NotNow
-stopped_answer Stop = Refused NotNow
 stopped_answer Wake = Done
-stopped_answer (Load place) = Refused NotNow
-stopped_answer (Store place w) = Refused NotNow
+stopped_answer call = Refused NotNow
 
 abbrev pub wakes : Call → Bool
-wakes (Set register value) = false
-wakes (Get register) = false
-wakes (Raise source) = false
-wakes (Begin c) = false
-wakes (Return c) = false
-wakes Stop = false
 wakes Wake = true
-wakes (Load place) = false
-wakes (Store place w) = false
+wakes call = false
 
 abbrev pub after_stopped : State → Meaning → Call → Machine
 after_stopped s m call = record { state = s; awake = wakes call; memory = m }
 
 -- what a call is answered
 abbrev pub answered : Machine → Call → Answer
-answered machine call = cond machine.awake (awake_answer machine.state machine.memory call) (stopped_answer call)
+answered machine call = if machine.awake then awake_answer machine.state machine.memory call else stopped_answer call
 
 -- what a call leaves
 abbrev pub after : Machine → Call → Machine
-after machine call = cond machine.awake (after_awake machine.state machine.memory call) (after_stopped machine.state machine.memory call)
+after machine call = if machine.awake then after_awake machine.state machine.memory call else after_stopped machine.state machine.memory call

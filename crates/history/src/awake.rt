@@ -6,31 +6,42 @@ ghost use Rattle.dma.specs.Reads.{get_answer};
 ghost use Rattle.dma.specs.Refusing.{answer};
 ghost use Rattle.dma.specs.Services.{begin_refusal, after_begin, return_refusal, after_return};
 ghost use Rattle.dma.specs.Sets.{set_answer, after_set};
-ghost use Rattle.dma.specs.State.{reset, row_at};
+ghost use Rattle.dma.specs.State.{State, reset, row_at};
 ghost use Rattle.dma.specs.Stops.{lost, after_stop};
-ghost use Rattle.history.specs.Open.{tied};
+ghost use Rattle.history.specs.Open.{Tied};
 ghost use Rattle.history.specs.Returns.{finish_refusal, after_finish};
 
+use crate::ending::absent;
+use dma::channel::Channel;
 use dma::controller::{Controller, Stopped};
 use dma::masks::Masks;
 use dma::service::Service;
 use memory::refusal::Refusal;
 use registers::register::Register;
 
-// The k-th token is there exactly while the service of channel k is open.
-pub struct Awake {
-    controller: Controller,
-    services: [Option<Service>; 6],
-    ghost channels: { length (state controller).rows ≡ 6 },
-    ghost tokens: { (k : ℕ) → tied services (state controller).rows k ≡ true },
+// A controller, awake or stopped.
+pub trait Held {
+    ghost held: { Self → State };
 }
 
-pub struct Asleep {
-    controller: Stopped,
-    services: [Option<Service>; 6],
-    ghost channels: { length (stopped_state controller).rows ≡ 6 },
-    ghost tokens: { (k : ℕ) → tied services (stopped_state controller).rows k ≡ true },
+impl Held for Controller {
+    ghost held = { state };
 }
+
+impl Held for Stopped {
+    ghost held = { stopped_state };
+}
+
+// The k-th token is there exactly while the service of channel k is open.
+pub struct Holding<C: Held> {
+    controller: C,
+    services: [Option<Service>; 6],
+    ghost tied: { Tied services (C.held controller).rows },
+}
+
+pub type Awake = Holding<Controller>;
+
+pub type Asleep = Holding<Stopped>;
 
 impl Awake {
     pub fn reset() -> Awake
@@ -38,7 +49,7 @@ impl Awake {
     {
         Awake {
             controller: Controller::reset(),
-            services: [None, None, None, None, None, None],
+            services: std::array::from_fn(|_| None),
         }
     }
 
@@ -71,28 +82,21 @@ impl Awake {
             mut controller,
             mut services,
         } = self;
-        match controller.begin(channel) {
+        let answer = match controller.begin(channel) {
             Ok(service) => {
                 let place = &mut services[channel as usize];
-                match place.replace(service) {
-                    None => (
-                        Awake {
-                            controller,
-                            services,
-                        },
-                        Ok(()),
-                    ),
-                    Some(_old) => unreachable(),
-                }
+                absent(place.replace(service));
+                Ok(())
             }
-            Err(refusal) => (
-                Awake {
-                    controller,
-                    services,
-                },
-                Err(refusal),
-            ),
-        }
+            Err(refusal) => Err(refusal),
+        };
+        (
+            Awake {
+                controller,
+                services,
+            },
+            answer,
+        )
     }
 
     // Gives the token of the channel back.
@@ -100,14 +104,13 @@ impl Awake {
         ensures value { result.1 ≡ answer (finish_refusal (state self.controller) channel) }
         ensures after { state result.0.controller ≡ after_finish (state self.controller) channel }
     {
-        if channel > 5 {
-            return (self, Err(Refusal::NoSuchRegister));
+        match Channel::try_from(channel) {
+            Ok(channel) => self.finish_channel(channel),
+            Err(refusal) => (self, Err(refusal)),
         }
-        self.finish_channel(channel)
     }
 
-    fn finish_channel(self, channel: u8) -> (Awake, Result<(), Refusal>)
-        requires { channel < 6 }
+    fn finish_channel(self, channel: Channel) -> (Awake, Result<(), Refusal>)
         ensures value { result.1 ≡ answer (return_refusal (state self.controller) channel) }
         ensures after { state result.0.controller ≡ after_return (state self.controller) channel }
     {
@@ -115,26 +118,21 @@ impl Awake {
             mut controller,
             mut services,
         } = self;
-        let place = &mut services[channel as usize];
-        match place.take() {
-            None => (
-                Awake {
-                    controller,
-                    services,
-                },
-                Err(Refusal::NoService),
-            ),
+        let place = &mut services[channel.number() as usize];
+        let answer = match place.take() {
+            None => Err(Refusal::NoService),
             Some(service) => match controller.finish(service) {
-                Ok(()) => (
-                    Awake {
-                        controller,
-                        services,
-                    },
-                    Ok(()),
-                ),
+                Ok(()) => Ok(()),
                 Err(_back) => unreachable(),
             },
-        }
+        };
+        (
+            Awake {
+                controller,
+                services,
+            },
+            answer,
+        )
     }
 
     // The tokens of a device with no open service.

@@ -1,6 +1,6 @@
 // The calls of a device, and what each is answered.
-ghost use Rattle.std.specs.Prelude.{◌≡◌};
-ghost use Rattle.history.specs.Answers.{done, word, raised, loaded, stored};
+ghost use Rattle.std.specs.Prelude.{◌≡◌, MatchResult};
+ghost use Rattle.history.specs.declared.call.Answer.TheVariants.{Done, Word, Raised, Refused, Fault};
 
 use dma::masks::Masks;
 use memory::place::Place;
@@ -33,49 +33,54 @@ pub enum Answer {
     Fault(Fault),
 }
 
-impl Answer {
-    pub(crate) fn done(outcome: Result<(), Refusal>) -> Answer
-        ensures value { result ≡ done outcome }
-    {
-        match outcome {
-            Ok(()) => Answer::Done,
-            Err(refusal) => Answer::Refused(refusal),
-        }
-    }
+impl From<()> for Answer {
+    ghost from_gives = { λ _ answer. answer ≡ Done };
 
-    pub(crate) fn word(outcome: Result<u32, Refusal>) -> Answer
-        ensures value { result ≡ word outcome }
-    {
-        match outcome {
-            Ok(word) => Answer::Word(word),
-            Err(refusal) => Answer::Refused(refusal),
-        }
+    fn from(_done: ()) -> Answer {
+        Answer::Done
     }
+}
 
-    pub(crate) fn raised(outcome: Result<Masks, Refusal>) -> Answer
-        ensures value { result ≡ raised outcome }
-    {
-        match outcome {
-            Ok(masks) => Answer::Raised(masks),
-            Err(refusal) => Answer::Refused(refusal),
-        }
+impl From<u32> for Answer {
+    ghost from_gives = { λ word answer. answer ≡ Word word };
+
+    fn from(word: u32) -> Answer {
+        Answer::Word(word)
     }
+}
 
-    pub(crate) fn loaded(outcome: Result<u32, Fault>) -> Answer
-        ensures value { result ≡ loaded outcome }
-    {
-        match outcome {
-            Ok(word) => Answer::Word(word),
-            Err(fault) => Answer::Fault(fault),
-        }
+impl From<Masks> for Answer {
+    ghost from_gives = { λ masks answer. answer ≡ Raised masks };
+
+    fn from(masks: Masks) -> Answer {
+        Answer::Raised(masks)
     }
+}
 
-    pub(crate) fn stored(outcome: Result<(), Fault>) -> Answer
-        ensures value { result ≡ stored outcome }
-    {
+impl From<Refusal> for Answer {
+    ghost from_gives = { λ refusal answer. answer ≡ Refused refusal };
+
+    fn from(refusal: Refusal) -> Answer {
+        Answer::Refused(refusal)
+    }
+}
+
+impl From<Fault> for Answer {
+    ghost from_gives = { λ fault answer. answer ≡ Fault fault };
+
+    fn from(fault: Fault) -> Answer {
+        Answer::Fault(fault)
+    }
+}
+
+// What a call of the controller or of the memory gives, or why it is refused.
+impl<T: Into<Answer>, E: Into<Answer>> From<Result<T, E>> for Answer {
+    ghost from_gives = { λ outcome answer. MatchResult outcome (λ x. T.converts x answer) (λ e. E.converts e answer) };
+
+    fn from(outcome: Result<T, E>) -> Answer {
         match outcome {
-            Ok(()) => Answer::Done,
-            Err(fault) => Answer::Fault(fault),
+            Ok(value) => value.into(),
+            Err(error) => error.into(),
         }
     }
 }

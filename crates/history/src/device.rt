@@ -42,34 +42,34 @@ impl Awake {
     {
         match call {
             Call::Set(register, value) => {
-                let answer = Answer::done(self.set(register, value));
+                let answer = Answer::from(self.set(register, value));
                 (Device::Awake(self), answer)
             }
             Call::Get(register) => {
-                let answer = Answer::word(self.get(register));
+                let answer = Answer::from(self.get(register));
                 (Device::Awake(self), answer)
             }
             Call::Raise(source) => {
-                let answer = Answer::raised(self.raise(source));
+                let answer = Answer::from(self.raise(source));
                 (Device::Awake(self), answer)
             }
             Call::Begin(channel) => {
                 let (device, result) = self.begin(channel);
-                (Device::Awake(device), Answer::done(result))
+                (Device::Awake(device), Answer::from(result))
             }
             Call::Return(channel) => {
                 let (device, result) = self.finish(channel);
-                (Device::Awake(device), Answer::done(result))
+                (Device::Awake(device), Answer::from(result))
             }
             Call::Stop => {
                 let (device, lost) = self.stop();
                 (Device::Asleep(device), Answer::Stopped(lost))
             }
             Call::Wake => (Device::Awake(self), Answer::Refused(Refusal::NotNow)),
-            Call::Load(place) => (Device::Awake(self), Answer::loaded(memory.load(place))),
+            Call::Load(place) => (Device::Awake(self), Answer::from(memory.load(place))),
             Call::Store(place, word) => (
                 Device::Awake(self),
-                Answer::stored(memory.store(place, word)),
+                Answer::from(memory.store(place, word)),
             ),
         }
     }

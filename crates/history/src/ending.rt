@@ -25,7 +25,8 @@ impl Awake {
     }
 }
 
-fn absent(token: Option<Service>)
+// There is no token to let go.
+pub(crate) fn absent(token: Option<Service>)
     requires { token ≡ None }
 {
     match token {
@@ -34,6 +35,7 @@ fn absent(token: Option<Service>)
     }
 }
 
+// One by one: an array has no `map` and no iterator by value where its elements cannot be let go.
 fn all_absent(services: [Option<Service>; 6])
     requires { (k : ℕ) → slice_index_or services k None ≡ None }
 {

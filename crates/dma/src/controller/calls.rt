@@ -53,10 +53,8 @@ impl Controller {
         ensures value { Begins (state self.old) channel result }
         ensures after { state self.new ≡ after_begin (state self.old) channel }
     {
-        match self.bank.begin(channel) {
-            Ok(()) => Ok(Service::new(channel)),
-            Err(refusal) => Err(refusal),
-        }
+        let channel = self.bank.begin(channel)?;
+        Ok(Service::new(channel))
     }
 
     // Takes a service back, or hands it back where this controller has no such service open.
@@ -64,7 +62,7 @@ impl Controller {
         ensures value { Returns (state self.old) service result }
         ensures after { state self.new ≡ after_return (state self.old) service.channel }
     {
-        match self.bank.finish(service.channel()) {
+        match self.bank.finish(service.channel) {
             Ok(()) => {
                 service.spend();
                 Ok(())

@@ -5,5 +5,4 @@ use Rattle.history.proofs.awake.Awake.set.Goals as goal
 pub invariant_of-self : goal.invariant_of-self
 invariant_of-self c =
     let d = c.args.self.now in
-    let still = kept d.services (state d.controller) _ _ c.set.ensures.after (set_serves (state d.controller) c.args.register c.args.value) d.channels d.tokens in
-    record { channels = still.channels; tokens = still.tokens }
+    record { tied = kept d.services (state d.controller) _ _ c.set.ensures.after (set_serves (state d.controller) c.args.register c.args.value) d.tied }

@@ -5,5 +5,4 @@ use Rattle.history.proofs.awake.Awake.stop.Goals as goal
 pub invariant_of-result : goal.invariant_of-result
 invariant_of-result c =
     let d = c.args.self in
-    let still = kept d.services (state d.controller) _ _ c.stop-lost.ensures.after (stop_serves (state d.controller)) d.channels d.tokens in
-    record { channels = still.channels; tokens = still.tokens }
+    record { tied = kept d.services (state d.controller) _ _ c.stop-lost.ensures.after (stop_serves (state d.controller)) d.tied }

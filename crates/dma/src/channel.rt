@@ -1,0 +1,48 @@
+// The number of one of the six channels.
+ghost use Rattle.std.specs.Prelude.{◌≡◌, ◌<◌, Ok, Err, nat_lt, if◌then◌else◌};
+ghost use Rattle.memory.specs.declared.refusal.Refusal.TheVariants.{NoSuchRegister};
+
+use memory::refusal::Refusal;
+use std::marker::Model;
+
+#[cfg(test)]
+mod tests;
+
+#[derive(Clone, Copy, PartialEq, Eq, Debug)]
+pub struct Channel {
+    number: u8,
+}
+
+impl Model for Channel {
+    ghost use Rattle.std.specs.Prelude.{ℕ, ◌<◌};
+
+    ghost Value = { ℕ };
+
+    ghost view = { λ channel. channel.number };
+
+    ghost invariant = { λ channel. channel.number < 6 };
+
+    ghost inverse = { λ number. record { number = number } };
+}
+
+impl TryFrom<u8> for Channel {
+    type Error = Refusal;
+
+    ghost try_from_gives = { λ number outcome. outcome ≡ (if nat_lt 5 number then Err NoSuchRegister else Ok number) };
+
+    fn try_from(number: u8) -> Result<Channel, Refusal> {
+        if number > 5 {
+            return Err(Refusal::NoSuchRegister);
+        }
+        Ok(Channel { number })
+    }
+}
+
+impl Channel {
+    pub fn number(self) -> u8
+        ensures value { result ≡ self }
+        ensures below { result < 6 }
+    {
+        self.number
+    }
+}
