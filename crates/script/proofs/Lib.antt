@@ -1,3 +1,2 @@
-mod Cutting
+pub mod Cutting
 mod Digits
-mod Turns

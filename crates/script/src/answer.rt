@@ -1,13 +1,15 @@
 // What a line is answered, and how the answer is written in the listing.
 ghost use Rattle.std.specs.Prelude.{◌≡◌, Some};
-ghost use Rattle.std.proofs.Math.Utf8.{encode};
+ghost use Rattle.std.specs.Char.{encode_utf8};
 ghost use Rattle.forms.specs.Spelling.{letter, spelled_place};
 ghost use Rattle.script.specs.Written.{tells_place, written_fault, written};
 
-use crate::hexadecimal::Hexadecimal;
 use memory::place::{Place, Space};
 use memory::refusal::{Fault, Refusal};
 use std::fmt;
+
+// How many words there are: of a greater number the listing has the lowest 24 bits.
+const WORDS: u32 = 0x100_0000;
 
 #[derive(Clone, Copy, PartialEq, Debug)]
 pub enum Answer {
@@ -41,8 +43,9 @@ struct Refused {
     fault: Fault,
 }
 
+// No `From`: neither `char` nor `Space` is a type of this crate.
 fn letter_of(space: Space) -> char
-    ensures { encode result ≡ letter space }
+    ensures { encode_utf8 result ≡ letter space }
 {
     match space {
         Space::X => 'x',
@@ -55,10 +58,10 @@ fn letter_of(space: Space) -> char
 fn tells_place(cause: Refusal) -> bool
     ensures { result ≡ tells_place cause }
 {
-    match cause {
-        Refusal::AbsentLoad | Refusal::AbsentStore | Refusal::FixedStore => true,
-        _ => false,
-    }
+    matches!(
+        cause,
+        Refusal::AbsentLoad | Refusal::AbsentStore | Refusal::FixedStore
+    )
 }
 
 impl fmt::Display for Spelled {
@@ -66,8 +69,8 @@ impl fmt::Display for Spelled {
 
     fn fmt<W: fmt::Write>(&self, f: &mut fmt::Formatter<W>) -> fmt::Result {
         let space = letter_of(self.place.space);
-        let address = Hexadecimal::word(self.place.address);
-        write!(f, "({space} {address})")
+        let address = self.place.address % WORDS;
+        write!(f, "({space} {address:06X})")
     }
 }
 
@@ -98,8 +101,8 @@ impl fmt::Display for Numbered {
         match self.answer {
             Answer::Done => write!(f, "(ok)"),
             Answer::Word(value) => {
-                let word = Hexadecimal::word(value);
-                write!(f, "(word {word})")
+                let word = value % WORDS;
+                write!(f, "(word {word:06X})")
             }
             Answer::Fault(fault) => {
                 let refused = Refused { line, fault };

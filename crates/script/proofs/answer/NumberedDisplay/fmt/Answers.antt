@@ -1,12 +1,8 @@
-use Rattle.std.proofs.Common.{◌++◌, codes, sym, ap, ◌∙◌, append_assoc, rules}
-use Rattle.std.proofs.Output.{has_written_of_eq}
-use Rattle.script.specs.Written.{written}
+use Rattle.std.proofs.Common.{rules, append_assoc}
+use Rattle.script.proofs.Digits.{six_shown}
 use Rattle.script.proofs.answer.NumberedDisplay.fmt.Goals as goal
 
 pub returns-in-Word-clause-writes : goal.returns-in-Word-clause-writes
-returns-in-Word-clause-writes g c plain ok =
-    let six = ap (λ digits. codes "(word " ++ (digits ++ codes ")")) c.word-word.ensures.digits in
-    has_written_of_eq g.W.Write.write_str_gives _ _ _ _ (six ∙ ap (written c.args.self.now.line) (sym c.in-Word.is)) (c.write-in-Word.ensures.writes plain ok)
-
-pub returns-in-NoForm-clause-writes : goal.returns-in-NoForm-clause-writes
-returns-in-NoForm-clause-writes g c = search (rules, append_assoc)
+returns-in-Word-clause-writes g c =
+    let six = six_shown c.in_radix.result c.laid_out.result c.in-Word.value c.in_radix.ensures c.laid_out.ensures in
+    search (rules, append_assoc)
