@@ -1,5 +1,5 @@
 -- One word put into the list of a flat memory.
-use Rattle.std.proofs.Common.{◌≡◌, ℕ, ◌+◌, ◌%◌, ◌<◌, ◌≤◌, true, false, cond, ◌&&◌, eqb, ◌≢◌, List, length, set, Ok, vec_items, vec_len, sym, ap, ◌∙◌, subst, ⊎_elim, arith}
+use Rattle.std.proofs.Common.{◌≡◌, ℕ, ◌+◌, ◌%◌, ◌<◌, ◌≤◌, true, false, cond, ◌&&◌, eqb, ◌≢◌, List, length, set, Ok, vec_items, sym, ap, ◌∙◌, subst, ⊎_elim, arith}
 use Rattle.std.proofs.lemmas.List.{get_or-set_same, get_or-set_other}
 use Rattle.std.proofs.lemmas.Bool.{ltb-true, lt-ltb, both_ways, cases_Bool, cond-true, cond-false, cond_both}
 use Rattle.std.proofs.lemmas.Bool.Decides.{nat_tests}
@@ -70,9 +70,6 @@ module _ (words : List ℕ) (z : FlatSizes) (room : z.x + z.y + z.p ≤ length w
 module _ (f : Flat) (p : Place) (w at : ℕ) (k : Kind) (is : k ≡ flat_kind f.sizes p) (allowed : Ok tt ≡ may_store k w) (here : at ≡ start_of f.sizes p.space + p.address) where
   covered : p.address < size_of f.sizes p.space
   covered = plain_is_covered f.sizes p (stored_place_is_plain (flat_meaning f) p w k is allowed)
-
-  pub flat_store_within : at < vec_len f.words
-  flat_store_within = subst (λ i. i < vec_len f.words) (sym here) (index_within f.sizes p.space p.address _ covered f.room)
 
   pub flat_store_leaves : (n : Meaning) → n ≡ flat_of (set (vec_items f.words) at w) f.sizes → n ≡ after_store (flat_meaning f) p w
   flat_store_leaves n e =

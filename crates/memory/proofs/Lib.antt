@@ -1,4 +1,3 @@
-pub mod BorderStores
 pub mod FlatStores
 pub mod PackedStores
 pub mod Stores

@@ -1,5 +1,5 @@
 -- Three bytes put into the list of a packed memory.
-use Rattle.std.proofs.Common.{◌≡◌, ℕ, ◌+◌, ◌*◌, ◌/◌, ◌%◌, ◌<◌, ◌≤◌, true, false, cond, ◌≢◌, ◌⊎◌, List, length, get_or, set, Ok, vec_items, vec_len, sym, refl, ◌∙◌, subst, inl, inr, ⊎_elim, arith}
+use Rattle.std.proofs.Common.{◌≡◌, ℕ, ◌+◌, ◌*◌, ◌/◌, ◌%◌, ◌<◌, ◌≤◌, true, false, cond, ◌≢◌, ◌⊎◌, List, length, get_or, set, Ok, vec_items, sym, refl, ◌∙◌, subst, inl, inr, ⊎_elim, arith}
 use Rattle.std.proofs.lemmas.List.{get_or-set_same, get_or-set_other, length-set}
 use Rattle.std.proofs.lemmas.Bool.{both_ways, and_parts, and_from, ltb-true, leb-true, eqb-true, eq-eqb, cases_order, cases_Bool, cond-true, cond-false, cond_both}
 use Rattle.std.proofs.lemmas.Bool.Decides.{nat_tests}
@@ -100,11 +100,6 @@ module _ (bytes : List ℕ) (z : PackedSizes) (room : 3 * z.count ≤ length byt
 module _ (m : Packed) (p : Place) (w : ℕ) (k : Kind) (is : k ≡ packed_kind m.sizes p) (allowed : Ok tt ≡ may_store k w) where
   holds : holds_word m.sizes p ≡ true
   holds = plain_holds_word m.sizes p (stored_place_is_plain (packed_meaning m) p w k is allowed)
-
-  pub packed_store_within : offset m.sizes p + 2 < vec_len m.bytes
-  packed_store_within =
-      let here = held m.sizes p holds in
-      omega (arith, here.inside, here.third, m.room)
 
   pub packed_store_leaves : (n : Meaning) → n ≡ packed_of (with_bytes (vec_items m.bytes) (offset m.sizes p) w) m.sizes → n ≡ after_store (packed_meaning m) p w
   packed_store_leaves n e =

@@ -1,20 +1,15 @@
--- A store that the kind allows: its answer, and what it leaves.
+-- A store that the kind allows, and what it leaves.
 use Rattle.std.proofs.Common.{◌≡◌, ℕ, ◌<◌, true, Ok, Err, Result, ap, ◌∙◌, arith}
 use Rattle.std.proofs.lemmas.Bool.Decides.{nat_tests}
 use Rattle.memory.specs.declared.place.Kind.{Kind}
 use Rattle.memory.specs.declared.place.Kind.TheVariants.{Plain}
 use Rattle.memory.specs.declared.place.Place.{Place}
-use Rattle.memory.specs.declared.refusal.Fault.{Fault}
 use Rattle.memory.specs.declared.refusal.Refusal.{Refusal}
-use Rattle.memory.specs.Meaning.{Meaning, fault, same_place, may_store, store_answer, put, after_store}
+use Rattle.memory.specs.Meaning.{Meaning, same_place, may_store, put, after_store}
 
 module _ (m : Meaning) (p : Place) (w : ℕ) (k : Kind) (is : k ≡ m.kind p) (allowed : Ok tt ≡ may_store k w) where
   allowed_there : Ok tt ≡ may_store (m.kind p) w
   allowed_there = allowed ∙ ap (λ x. may_store x w) is
-
-  pub store_taken : Ok tt ≡ store_answer m p w
-  store_taken =
-      ap (λ (r : Result (Unit {0}) Refusal). elim r as (λ _. Result (Unit {0}) Fault) [ Ok u ↦ Ok tt | Err cause ↦ Err (fault m cause p) ]) allowed_there
 
   pub store_leaves : (n : Meaning) → n ≡ put m p w → n ≡ after_store m p w
   store_leaves n e =

@@ -1,5 +1,5 @@
 -- What a border of two memories means.
-use Rattle.std.specs.Prelude.{ℕ, ◌+◌, min, cond, Ok, Err, Result, nat_lt}
+use Rattle.std.specs.Prelude.{ℕ, ◌+◌, min, cond, nat_lt}
 use Rattle.memory.specs.declared.place.Owner.{Owner}
 use Rattle.memory.specs.declared.refusal.Fault.{Fault}
 use Rattle.memory.specs.Meaning.{Meaning}
@@ -9,10 +9,6 @@ deeper o = record { letter = o.letter; depth = min 255 (o.depth + 1) }
 
 abbrev pub deeper_fault : Fault → Fault
 deeper_fault f = record { cause = f.cause; place = f.place; owner = deeper f.owner }
-
-abbrev pub deepened : {T : Type 0} → Result T Fault → Result T Fault
-deepened (Ok x) = Ok x
-deepened (Err f) = Err (deeper_fault f)
 
 -- addresses below the border mean what they mean in the first memory, the others what they mean in the second; only owners lie deeper
 abbrev pub border_of : ℕ → Meaning → Meaning → Meaning

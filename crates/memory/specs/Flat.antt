@@ -8,16 +8,12 @@ use Rattle.memory.specs.declared.place.Owner.{Owner}
 use Rattle.memory.specs.declared.place.Place.{Place}
 use Rattle.memory.specs.declared.place.Space.{Space}
 use Rattle.memory.specs.declared.place.Space.TheVariants.{X, Y, P}
-use Rattle.memory.specs.declared.refusal.Fault.{Fault}
 use Rattle.memory.specs.declared.refusal.Refusal.{Refusal}
 use Rattle.memory.specs.declared.refusal.Refusal.TheVariants.{UnfitSizes}
 use Rattle.memory.specs.Meaning.{Meaning, nowhere}
 
 abbrev pub flat_owner : Owner
 flat_owner = record { letter = 70; depth = 0 }
-
-abbrev pub flat_fault : Refusal → Place → Fault
-flat_fault cause p = record { cause = cause; place = p; owner = flat_owner }
 
 -- the words that a space has, and the index of its first word in the list
 abbrev pub size_of : FlatSizes → Space → ℕ

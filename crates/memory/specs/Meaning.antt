@@ -30,9 +30,13 @@ same_space P P = true
 abbrev pub same_place : Place → Place → Bool
 same_place p q = same_space p.space q.space && p.address == q.address
 
+-- a refusal by the memory of this owner
+abbrev pub fault_of : Owner → Refusal → Place → Fault
+fault_of owner cause p = record { cause = cause; place = p; owner = owner }
+
 -- the refusal that a memory gives at a place
 abbrev pub fault : Meaning → Refusal → Place → Fault
-fault m cause p = record { cause = cause; place = p; owner = m.owner p }
+fault m cause p = fault_of (m.owner p) cause p
 
 abbrev pub load_answer : Meaning → Place → Result ℕ Fault
 load_answer m p = elim (m.kind p) [ Absent ↦ Err (fault m AbsentLoad p) | Fixed ↦ Ok (m.word p) | Plain ↦ Ok (m.word p) ]

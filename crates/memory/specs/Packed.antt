@@ -6,16 +6,12 @@ use Rattle.memory.specs.declared.place.Kind.{Kind}
 use Rattle.memory.specs.declared.place.Kind.TheVariants.{Absent, Plain}
 use Rattle.memory.specs.declared.place.Owner.{Owner}
 use Rattle.memory.specs.declared.place.Place.{Place}
-use Rattle.memory.specs.declared.refusal.Fault.{Fault}
 use Rattle.memory.specs.declared.refusal.Refusal.{Refusal}
 use Rattle.memory.specs.declared.refusal.Refusal.TheVariants.{UnfitSizes}
 use Rattle.memory.specs.Meaning.{Meaning, same_space, nowhere}
 
 abbrev pub packed_owner : Owner
 packed_owner = record { letter = 66; depth = 0 }
-
-abbrev pub packed_fault : Refusal → Place → Fault
-packed_fault cause p = record { cause = cause; place = p; owner = packed_owner }
 
 -- how far a place lies above the first word; three bytes for a word at every third address make it the index of the first byte too
 abbrev pub offset : PackedSizes → Place → ℕ

@@ -1,6 +1,6 @@
 // Two memories side by side: addresses below the border go to the first, the others to the second.
 ghost use Rattle.std.specs.Prelude.{◌≡◌, nat_lt};
-ghost use Rattle.memory.specs.Border.{deeper, deeper_fault, deepened, border_of};
+ghost use Rattle.memory.specs.Border.{deeper, deeper_fault, border_of};
 ghost use Rattle.std.proofs.Common.{rules};
 
 use crate::interface::Memory;
@@ -48,16 +48,6 @@ impl Fault {
     }
 }
 
-// A side's answer as it is seen over the border.
-fn deepened<T>(answer: Result<T, Fault>) -> Result<T, Fault>
-    ensures value { result ≡ deepened answer }
-{
-    match answer {
-        Ok(x) => Ok(x),
-        Err(fault) => Err(fault.deeper()),
-    }
-}
-
 impl<Low: Memory, High: Memory> Memory for Border<Low, High> {
     ghost meaning = { λ m. border_of m.border (Low.Memory.meaning m.low) (High.Memory.meaning m.high) };
 
@@ -75,17 +65,17 @@ impl<Low: Memory, High: Memory> Memory for Border<Low, High> {
 
     fn load(&mut self, place: Place) -> Result<u32, Fault> {
         if self.is_low(place) {
-            deepened(self.low.load(place))
+            self.low.load(place).map_err(Fault::deeper)
         } else {
-            deepened(self.high.load(place))
+            self.high.load(place).map_err(Fault::deeper)
         }
     }
 
     fn store(&mut self, place: Place, word: u32) -> Result<(), Fault> {
         if self.is_low(place) {
-            deepened(self.low.store(place, word))
+            self.low.store(place, word).map_err(Fault::deeper)
         } else {
-            deepened(self.high.store(place, word))
+            self.high.store(place, word).map_err(Fault::deeper)
         }
     }
 }

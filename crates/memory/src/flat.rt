@@ -13,6 +13,7 @@ pub struct FlatSizes {
     pub fixed_from: u32,
 }
 
+// The sizes stand beside the list, since they part it into three: the caller names them, and `room` says that the list is as long as they need.
 #[derive(Drop)]
 pub struct Flat {
     words: Vec<u32>,

@@ -14,6 +14,7 @@ pub struct PackedSizes {
     pub count: u32,
 }
 
+// The sizes stand beside the bytes, since they say where the words lie: the caller names them, and `room` says that the bytes are enough.
 #[derive(Drop)]
 pub struct Packed {
     bytes: Vec<u8>,

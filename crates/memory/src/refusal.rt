@@ -1,6 +1,6 @@
 // Why a call is refused, and what a memory tells about its refusal.
 ghost use Rattle.std.specs.Prelude.{◌≡◌};
-ghost use Rattle.memory.specs.Meaning.{may_store};
+ghost use Rattle.memory.specs.Meaning.{fault_of, may_store};
 ghost use Rattle.memory.specs.Refusals.{number};
 
 use crate::place::{Kind, Owner, Place};
@@ -28,11 +28,11 @@ pub enum Refusal {
     UnfitSizes = 18,
 }
 
-impl Refusal {
-    pub fn code(self) -> u8
-        ensures value { result ≡ number self }
-    {
-        self as u8
+impl From<Refusal> for u8 {
+    ghost from_gives = { λ refusal n. n ≡ number refusal };
+
+    fn from(refusal: Refusal) -> u8 {
+        refusal as u8
     }
 }
 
@@ -42,6 +42,19 @@ pub struct Fault {
     pub cause: Refusal,
     pub place: Place,
     pub owner: Owner,
+}
+
+impl Owner {
+    // A refusal by the memory of this owner.
+    pub fn fault(self, cause: Refusal, place: Place) -> Fault
+        ensures value { result ≡ fault_of self cause place }
+    {
+        Fault {
+            cause,
+            place,
+            owner: self,
+        }
+    }
 }
 
 // Whether a word can be stored at a place of this kind; a word that is too large is refused whatever the place is.

@@ -79,7 +79,7 @@ impl fmt::Display for Refused {
 
     fn fmt<W: fmt::Write>(&self, f: &mut fmt::Formatter<W>) -> fmt::Result {
         let line = self.line;
-        let number = self.fault.cause.code();
+        let number = u8::from(self.fault.cause);
         if tells_place(self.fault.cause) {
             let place = Spelled {
                 place: self.fault.place,
@@ -109,7 +109,7 @@ impl fmt::Display for Numbered {
                 write!(f, "{refused}")
             }
             Answer::NoForm => {
-                let number = Refusal::NoForm.code();
+                let number = u8::from(Refusal::NoForm);
                 write!(f, "(refused {number} at {line})")
             }
         }

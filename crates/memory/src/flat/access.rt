@@ -1,6 +1,6 @@
 // A flat memory's places: which there are, and their words.
 ghost use Rattle.std.specs.Prelude.{◌≡◌, ◌+◌, ◌<◌, vec_len, slice_set};
-ghost use Rattle.memory.specs.Flat.{covers, start_of, flat_fault, flat_of, flat_meaning};
+ghost use Rattle.memory.specs.Flat.{covers, start_of, flat_of, flat_meaning};
 ghost use Rattle.std.proofs.Common.{rules};
 
 use crate::flat::{Flat, FlatSizes};
@@ -38,16 +38,6 @@ const OWNER: Owner = Owner {
     depth: 0,
 };
 
-fn refused(cause: Refusal, place: Place) -> Fault
-    ensures value { result ≡ flat_fault cause place }
-{
-    Fault {
-        cause,
-        place,
-        owner: OWNER,
-    }
-}
-
 impl Flat {
     // Writes one number of the list.
     fn put(&mut self, at: usize, word: u32)
@@ -77,20 +67,17 @@ impl Memory for Flat {
 
     fn load(&mut self, place: Place) -> Result<u32, Fault> {
         if !self.sizes.covers(place) {
-            return Err(refused(Refusal::AbsentLoad, place));
+            return Err(OWNER.fault(Refusal::AbsentLoad, place));
         }
         let at = self.sizes.index(place);
         Ok(self.words[at] % 0x100_0000)
     }
 
+    #[tactic(auto, using(crate::proofs::FlatStores::flat_store_leaves))]
     fn store(&mut self, place: Place, word: u32) -> Result<(), Fault> {
-        match may_store(self.kind(place), word) {
-            Err(cause) => Err(refused(cause, place)),
-            Ok(()) => {
-                let at = self.sizes.index(place);
-                self.put(at, word);
-                Ok(())
-            }
-        }
+        may_store(self.kind(place), word).map_err(|cause| OWNER.fault(cause, place))?;
+        let at = self.sizes.index(place);
+        self.put(at, word);
+        Ok(())
     }
 }

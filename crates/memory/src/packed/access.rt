@@ -1,6 +1,6 @@
 // A packed memory's places: which there are, and their words.
 ghost use Rattle.std.specs.Prelude.{◌≡◌, ◌+◌, ◌<◌, vec_len};
-ghost use Rattle.memory.specs.Packed.{holds_word, with_bytes, packed_fault, packed_of, packed_meaning};
+ghost use Rattle.memory.specs.Packed.{holds_word, with_bytes, packed_of, packed_meaning};
 ghost use Rattle.std.proofs.Common.{rules};
 
 use crate::interface::Memory;
@@ -12,16 +12,6 @@ const OWNER: Owner = Owner {
     letter: 'B',
     depth: 0,
 };
-
-fn refused(cause: Refusal, place: Place) -> Fault
-    ensures value { result ≡ packed_fault cause place }
-{
-    Fault {
-        cause,
-        place,
-        owner: OWNER,
-    }
-}
 
 impl PackedSizes {
     fn holds_word(self, place: Place) -> bool
@@ -65,20 +55,17 @@ impl Memory for Packed {
 
     fn load(&mut self, place: Place) -> Result<u32, Fault> {
         if !self.sizes.holds_word(place) {
-            return Err(refused(Refusal::AbsentLoad, place));
+            return Err(OWNER.fault(Refusal::AbsentLoad, place));
         }
         let at = (place.address - self.sizes.base) as usize;
         Ok(u32::from_le_bytes([self.bytes[at], self.bytes[at + 1], self.bytes[at + 2], 0]))
     }
 
+    #[tactic(auto, using(crate::proofs::PackedStores::packed_store_leaves))]
     fn store(&mut self, place: Place, word: u32) -> Result<(), Fault> {
-        match may_store(self.kind(place), word) {
-            Err(cause) => Err(refused(cause, place)),
-            Ok(()) => {
-                let at = (place.address - self.sizes.base) as usize;
-                self.put(at, word);
-                Ok(())
-            }
-        }
+        may_store(self.kind(place), word).map_err(|cause| OWNER.fault(cause, place))?;
+        let at = (place.address - self.sizes.base) as usize;
+        self.put(at, word);
+        Ok(())
     }
 }
