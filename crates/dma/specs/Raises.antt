@@ -2,7 +2,7 @@
 use Rattle.std.specs.Prelude.{◌≡◌, ℕ, ◌+◌, ◌^◌, Bool, false, cond, ◌&&◌, ◌||◌, List, map, Ok, Err, Result, nat_le, nat_lt}
 use Rattle.memory.specs.declared.refusal.Refusal.{Refusal}
 use Rattle.memory.specs.declared.refusal.Refusal.TheVariants.{NoSuchSource}
-use Rattle.dma.specs.declared.register.Masks.{Masks}
+use Rattle.dma.specs.declared.masks.Masks.{Masks}
 use Rattle.dma.specs.declared.row.Row.{Row}
 use Rattle.dma.specs.Channels.{listens, captures, misses, made_due}
 use Rattle.dma.specs.State.{State, row_at}

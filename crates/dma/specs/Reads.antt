@@ -3,13 +3,13 @@ use Rattle.std.specs.Prelude.{ℕ, ◌+◌, ◌*◌, ◌^◌, cond, not, List, [
 use Rattle.memory.specs.declared.refusal.Refusal.{Refusal}
 use Rattle.memory.specs.declared.refusal.Refusal.TheVariants.{NoSuchRegister}
 use Rattle.dma.specs.declared.arbitration.Contest.{Contest}
-use Rattle.dma.specs.declared.register.Register.{Register}
-use Rattle.dma.specs.declared.register.Register.TheVariants.{Dsr, Ddr, Dco, Dcr, Dor, Dstr}
+use Rattle.registers.specs.Names.{unknown}
+use Rattle.registers.specs.declared.register.Register.{Register}
+use Rattle.registers.specs.declared.register.Register.TheVariants.{Dsr, Ddr, Dco, Dcr, Dor, Dstr}
 use Rattle.dma.specs.declared.row.Row.{Row}
 use Rattle.dma.specs.Arbitration.{winner}
 use Rattle.dma.specs.Channels.{settings}
 use Rattle.dma.specs.Raises.{mask}
-use Rattle.dma.specs.Sets.{unknown}
 use Rattle.dma.specs.State.{State, row_at}
 
 -- something of each of the six channels

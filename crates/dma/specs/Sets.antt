@@ -2,32 +2,15 @@
 use Rattle.std.specs.Prelude.{ℕ, ◌-◌, ◌*◌, ◌^◌, Bool, true, false, cond, not, ◌&&◌, ◌||◌, is_some, Some, None, Option, Result, ◌==◌, nat_lt, slice_set}
 use Rattle.memory.specs.declared.refusal.Refusal.{Refusal}
 use Rattle.memory.specs.declared.refusal.Refusal.TheVariants.{NoSuchRegister, ValueTooLarge, StatusIsRead, Busy, ReservedMode, ReservedShape, ReservedSpace, ShapeInMidBlock}
+use Rattle.registers.specs.Names.{unknown, channel_of}
 use Rattle.registers.specs.Control.{field, enable, mode_of, mode_number, shape_of, spaces_of}
-use Rattle.dma.specs.declared.register.Register.{Register}
-use Rattle.dma.specs.declared.register.Register.TheVariants.{Dsr, Ddr, Dco, Dcr, Dor, Dstr}
+use Rattle.registers.specs.declared.register.Register.{Register}
+use Rattle.registers.specs.declared.register.Register.TheVariants.{Dsr, Ddr, Dco, Dcr, Dor, Dstr}
 use Rattle.dma.specs.declared.row.Row.{Row}
 use Rattle.registers.specs.Counter.{position}
 use Rattle.dma.specs.Channels.{settings, preloaded, counted, busy, by_words, made_due, starts_by_enable}
 use Rattle.dma.specs.Refusing.{answer, unless}
 use Rattle.dma.specs.State.{State, row_at}
-
--- the register does not exist
-abbrev pub unknown : Register → Bool
-unknown (Dsr c) = nat_lt 5 c
-unknown (Ddr c) = nat_lt 5 c
-unknown (Dco c) = nat_lt 5 c
-unknown (Dcr c) = nat_lt 5 c
-unknown (Dor i) = nat_lt 3 i
-unknown Dstr = false
-
--- the channel that a register belongs to
-abbrev pub channel_of : Register → Option ℕ
-channel_of (Dsr c) = Some c
-channel_of (Ddr c) = Some c
-channel_of (Dco c) = Some c
-channel_of (Dcr c) = Some c
-channel_of (Dor i) = None
-channel_of Dstr = None
 
 -- the held control word with DE cleared
 abbrev pub disabled : ℕ → ℕ

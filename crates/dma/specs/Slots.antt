@@ -3,7 +3,7 @@ use Rattle.std.specs.Prelude.{ℕ, ◌+◌, ◌-◌, Bool, false, cond, not, ◌
 use Rattle.memory.specs.declared.place.Place.{Place}
 use Rattle.registers.specs.Counter.{joined, stepped, ends_block}
 use Rattle.registers.specs.Updates.{updated}
-use Rattle.dma.specs.declared.register.Masks.{Masks}
+use Rattle.dma.specs.declared.masks.Masks.{Masks}
 use Rattle.dma.specs.declared.row.Row.{Row}
 use Rattle.dma.specs.Channels.{settings, layout, preloaded, counted, keeps_enable, draining}
 use Rattle.dma.specs.Raises.{masks_of, raised, no_masks}

@@ -3,7 +3,7 @@ use Rattle.std.specs.Prelude.{◌≡◌, ℕ, zero, suc, true, false, List, [], 
 use Rattle.memory.specs.declared.refusal.Refusal.{Refusal}
 use Rattle.memory.specs.Refusals.{number}
 use Rattle.registers.specs.Counter.{block_length}
-use Rattle.dma.specs.declared.register.Register.TheVariants.{Dcr}
+use Rattle.registers.specs.declared.register.Register.TheVariants.{Dcr}
 use Rattle.dma.specs.declared.row.Row.{Row}
 use Rattle.dma.specs.Channels.{preloaded}
 use Rattle.dma.specs.Reads.{next_served}

@@ -5,7 +5,7 @@ pub mod arbitration;
 mod bank;
 pub mod cases;
 pub mod controller;
-pub mod register;
+pub mod masks;
 pub mod row;
 pub mod service;
 mod serving;

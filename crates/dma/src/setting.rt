@@ -4,10 +4,10 @@ ghost use Rattle.dma.specs.Channels.{busy};
 ghost use Rattle.dma.specs.Refusing.{answer, unless};
 ghost use Rattle.dma.specs.Sets.{disabled, reshapes, if_busy, with_source, with_destination, with_counter, switched_off, switched_on, at_rest_refusal, control_refusal, after_control, row_refusal, row_set};
 
-use crate::register::Register;
 use crate::row::Row;
 use memory::refusal::Refusal;
 use registers::control::{Shape, Spaces, TransferMode, enabled};
+use registers::register::Register;
 
 // The control word with DE cleared.
 fn disabled(word: u32) -> u32

@@ -3,7 +3,7 @@ use Rattle.std.proofs.Common.{◌≡◌, ℕ, List, [], ◌∷◌, ◌++◌, Som
 use Rattle.memory.specs.declared.place.Place.{Place}
 use Rattle.forms.specs.declared.form.Form.{Form}
 use Rattle.forms.specs.declared.form.Form.TheVariants.{Store, Load, Set, Get, Raise, Slot, Serve, Stop, Wake}
-use Rattle.forms.specs.declared.form.Register.{Register}
+use Rattle.registers.specs.declared.register.Register.{Register}
 use Rattle.forms.specs.Reading.{store_of, load_of, set_of, get_of, number_as, forms, ended, form_of}
 use Rattle.forms.specs.Scanning.{bind, skipped, first_way, number_of}
 use Rattle.forms.specs.Spelling.{spelled_word, spelled_place, spelled_register, spelled, WordFits, NumberFits, RegisterFits, InRange, Exact}

@@ -2,8 +2,8 @@
 use Rattle.std.proofs.Common.{◌≡◌, ℕ, suc, ◌≤◌, true, false, eqb, ltb, List, [], ◌∷◌, ◌++◌, length, get_or, take, drop, Some, codes, decimal, Option, sym, refl, ap, ◌∙◌, subst, ⊎_elim, append_assoc, arith, take-append-drop, length-take-le}
 use Rattle.std.proofs.lemmas.Slice.Eq.{HasBytesAt, text_from_reads}
 use Rattle.std.proofs.lemmas.Bool.{eqb-true, ltb-false, le-ltb, and_parts}
-use Rattle.forms.specs.declared.form.Register.{Register}
-use Rattle.forms.specs.declared.form.Register.TheVariants.{Dsr, Ddr, Dco, Dcr, Dor, Dstr}
+use Rattle.registers.specs.declared.register.Register.{Register}
+use Rattle.registers.specs.declared.register.Register.TheVariants.{Dsr, Ddr, Dco, Dcr, Dor, Dstr}
 use Rattle.forms.specs.Reading.{reads, Name, named, names, numbered_of, registers, register_of}
 use Rattle.forms.specs.Scanning.{bind, skipped, number_of}
 use Rattle.forms.specs.Spelling.{spelled_register, RegisterFits, NumberFits}

@@ -5,8 +5,8 @@ use Rattle.memory.specs.declared.place.Space.{Space}
 use Rattle.memory.specs.declared.place.Space.TheVariants.{X, Y, P}
 use Rattle.forms.specs.declared.form.Form.{Form}
 use Rattle.forms.specs.declared.form.Form.TheVariants.{Store, Load, Set, Get, Raise, Slot, Serve, Stop, Wake}
-use Rattle.forms.specs.declared.form.Register.{Register}
-use Rattle.forms.specs.declared.form.Register.TheVariants.{Dsr, Ddr, Dco, Dcr, Dor, Dstr}
+use Rattle.registers.specs.declared.register.Register.{Register}
+use Rattle.registers.specs.declared.register.Register.TheVariants.{Dsr, Ddr, Dco, Dcr, Dor, Dstr}
 use Rattle.forms.specs.Scanning.{bind, skipped, pair_of, closed_of, Way, first_way, last_word_of, number_of}
 
 -- the space of a letter: x, y or p

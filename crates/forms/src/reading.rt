@@ -5,9 +5,10 @@ ghost use Rattle.forms.specs.Reading.{form_of, forms, bare_forms, space_of, plac
 ghost use Rattle.forms.specs.Scanning.{seen, first_way};
 ghost use Rattle.forms.specs.Spelling.{Exact};
 
-use crate::form::{Form, Register};
+use crate::form::Form;
 use crate::scan::{skip, take_last_word, take_number};
 use memory::place::{Place, Space};
+use registers::register::Register;
 
 // The letter of a space.
 fn take_space(s: &[u8]) -> Option<(Space, &[u8])>

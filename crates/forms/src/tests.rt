@@ -1,7 +1,8 @@
 // Lines of the script language, and lines that are not.
-use crate::form::{Form, Register};
+use crate::form::Form;
 use crate::reading::read;
 use memory::place::{Place, Space};
+use registers::register::Register;
 use std::process::Abort;
 
 fn all_read(rt: &impl Abort, lines: &[(&[u8], Form)]) {

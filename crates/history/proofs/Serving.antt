@@ -5,8 +5,8 @@ use Rattle.std.proofs.lemmas.Bool.{cases_eq, cases_lt, and_parts, eqb-true}
 use Rattle.memory.specs.declared.refusal.Refusal.{Refusal}
 use Rattle.memory.specs.declared.refusal.Refusal.TheVariants.{NoService}
 use Rattle.registers.specs.Control.{enable}
-use Rattle.dma.specs.declared.register.Register.{Register}
-use Rattle.dma.specs.declared.register.Register.TheVariants.{Dsr, Ddr, Dco, Dcr, Dor, Dstr}
+use Rattle.registers.specs.declared.register.Register.{Register}
+use Rattle.registers.specs.declared.register.Register.TheVariants.{Dsr, Ddr, Dco, Dcr, Dor, Dstr}
 use Rattle.dma.specs.declared.row.Row.{Row}
 use Rattle.dma.specs.declared.service.Service.{Service}
 use Rattle.dma.specs.Channels.{settings, by_words, captures}

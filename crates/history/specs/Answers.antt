@@ -1,6 +1,6 @@
 -- What a device answers where a call of the controller or of the memory answers.
 use Rattle.std.specs.Prelude.{ℕ, Ok, Err, Result}
-use Rattle.dma.specs.declared.register.Masks.{Masks}
+use Rattle.dma.specs.declared.masks.Masks.{Masks}
 use Rattle.memory.specs.declared.refusal.Fault.{Fault as MemoryFault}
 use Rattle.memory.specs.declared.refusal.Refusal.{Refusal}
 use Rattle.history.specs.declared.call.Answer.{Answer}

@@ -12,9 +12,10 @@ ghost use Rattle.history.specs.Open.{tied};
 ghost use Rattle.history.specs.Returns.{finish_refusal, after_finish};
 
 use dma::controller::{Controller, Stopped};
-use dma::register::{Masks, Register};
+use dma::masks::Masks;
 use dma::service::Service;
 use memory::refusal::Refusal;
+use registers::register::Register;
 
 // The k-th token is there exactly while the service of channel k is open.
 pub struct Awake {

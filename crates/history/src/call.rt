@@ -2,9 +2,10 @@
 ghost use Rattle.std.specs.Prelude.{◌≡◌};
 ghost use Rattle.history.specs.Answers.{done, word, raised, loaded, stored};
 
-use dma::register::{Masks, Register};
+use dma::masks::Masks;
 use memory::place::Place;
 use memory::refusal::{Fault, Refusal};
+use registers::register::Register;
 
 #[derive(Clone, Copy, PartialEq, Eq, Debug)]
 pub enum Call {

@@ -1,10 +1,11 @@
 // A device that is set, stopped, woken and served over a memory of one word.
 use crate::call::{Answer, Call};
 use crate::device::Device;
-use dma::register::{Masks, Register};
+use dma::masks::Masks;
 use memory::flat::{Flat, FlatSizes};
 use memory::place::{Owner, Place, Space};
 use memory::refusal::{Fault, Refusal};
+use registers::register::Register;
 use std::test::Fail;
 
 const ONE_WORD: FlatSizes = FlatSizes {

@@ -1,4 +1,5 @@
 pub mod Control
 pub mod Counter
 pub mod Laws
+pub mod Names
 pub mod Updates

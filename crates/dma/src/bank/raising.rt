@@ -6,7 +6,7 @@ ghost use Rattle.dma.specs.State.{row_at};
 ghost use Rattle.dma.specs.Stops.{halted, lost, after_stop};
 
 use crate::bank::Bank;
-use crate::register::Masks;
+use crate::masks::Masks;
 use crate::row::Row;
 use memory::refusal::Refusal;
 

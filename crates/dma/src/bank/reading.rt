@@ -2,29 +2,12 @@
 ghost use Rattle.std.specs.Prelude.{◌≡◌};
 ghost use Rattle.dma.specs.Banks.{state_of};
 ghost use Rattle.dma.specs.Reads.{contest, next_served, status_of, status, get_answer};
-ghost use Rattle.dma.specs.Sets.{unknown};
 
 use crate::arbitration::Contest;
 use crate::bank::Bank;
 use crate::bank::raising::mask;
-use crate::register::Register;
 use memory::refusal::Refusal;
-
-impl Register {
-    // Whether there is no register of that number.
-    pub fn unknown(self) -> bool
-        ensures value { result ≡ unknown self }
-    {
-        match self {
-            Register::Dsr(c) => c > 5,
-            Register::Ddr(c) => c > 5,
-            Register::Dco(c) => c > 5,
-            Register::Dcr(c) => c > 5,
-            Register::Dor(i) => i > 3,
-            Register::Dstr => false,
-        }
-    }
-}
+use registers::register::Register;
 
 fn status_of(done: u8, next: Option<u8>) -> u32
     ensures value { result ≡ status_of done next }

@@ -1,29 +1,14 @@
 // Setting the registers.
 ghost use Rattle.std.specs.Prelude.{◌≡◌, ◌<◌, false};
+ghost use Rattle.registers.specs.Names.{unknown};
 ghost use Rattle.dma.specs.Banks.{state_of};
 ghost use Rattle.dma.specs.Refusing.{answer, unless};
-ghost use Rattle.dma.specs.Sets.{unknown, channel_of, row_refusal, row_set, change, shared_refusal, shared_set, set_answer, after_set};
+ghost use Rattle.dma.specs.Sets.{row_refusal, row_set, change, shared_refusal, shared_set, set_answer, after_set};
 ghost use Rattle.dma.specs.State.{row_at};
 
 use crate::bank::Bank;
-use crate::register::Register;
 use memory::refusal::Refusal;
-
-impl Register {
-    // The channel that the register belongs to.
-    fn channel(self) -> Option<u8>
-        ensures value { result ≡ channel_of self }
-    {
-        match self {
-            Register::Dsr(c) => Some(c),
-            Register::Ddr(c) => Some(c),
-            Register::Dco(c) => Some(c),
-            Register::Dcr(c) => Some(c),
-            Register::Dor(_) => None,
-            Register::Dstr => None,
-        }
-    }
-}
+use registers::register::Register;
 
 impl Bank {
     fn set_row(&mut self, c: u8, register: Register, value: u32) -> Result<(), Refusal>

@@ -11,9 +11,10 @@ ghost use Rattle.dma.specs.Tokens.{Begins, Returns};
 
 use crate::bank::Bank;
 use crate::controller::{Controller, Stopped};
-use crate::register::{Masks, Register};
+use crate::masks::Masks;
 use crate::service::{HandedBack, Service};
 use memory::refusal::Refusal;
+use registers::register::Register;
 
 impl Controller {
     // Awake, every register 0, nothing due or requested, no service open.
