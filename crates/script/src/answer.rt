@@ -32,9 +32,7 @@ pub struct Numbered {
 
 // A place as scripts spell it.
 #[derive(Clone, Copy)]
-struct Spelled {
-    place: Place,
-}
+struct Spelled(Place);
 
 // A memory's refusal of the line with that number.
 #[derive(Clone, Copy)]
@@ -65,11 +63,11 @@ fn tells_place(cause: Refusal) -> bool
 }
 
 impl fmt::Display for Spelled {
-    ghost output = { λ s. Some (spelled_place s.place) };
+    ghost output = { λ s. Some (spelled_place s.0) };
 
     fn fmt<W: fmt::Write>(&self, f: &mut fmt::Formatter<W>) -> fmt::Result {
-        let space = letter_of(self.place.space);
-        let address = self.place.address % WORDS;
+        let space = letter_of(self.0.space);
+        let address = self.0.address % WORDS;
         write!(f, "({space} {address:06X})")
     }
 }
@@ -81,9 +79,7 @@ impl fmt::Display for Refused {
         let line = self.line;
         let number = u8::from(self.fault.cause);
         if tells_place(self.fault.cause) {
-            let place = Spelled {
-                place: self.fault.place,
-            };
+            let place = Spelled(self.fault.place);
             let owner = self.fault.owner.letter;
             let depth = self.fault.owner.depth;
             write!(f, "(refused {number} at {line} {place} {owner} {depth})")
