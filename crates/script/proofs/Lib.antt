@@ -1,2 +1,2 @@
 pub mod Cutting
-mod Digits
+pub mod Digits

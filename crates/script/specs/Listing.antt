@@ -1,5 +1,5 @@
 -- The listing of a script over a memory, and the memory that the script leaves.
-use Rattle.std.specs.Prelude.{ℕ, suc, if◌then◌else◌, List, [], ◌∷◌, ◌++◌, map, length, take, Some, None, Ok, Err, codes, Option, Result, nat_lt}
+use Rattle.std.specs.Prelude.{ℕ, suc, if◌then◌else◌, List, [], ◌∷◌, ◌++◌, map, length, take, Some, None, Ok, Err, Option, Result, nat_lt}
 use Rattle.memory.specs.declared.refusal.Fault as fault
 use Rattle.memory.specs.Meaning.{Meaning, load_answer, store_answer, after_store}
 use Rattle.forms.specs.declared.form.Form.{Form}

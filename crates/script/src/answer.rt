@@ -65,6 +65,7 @@ fn tells_place(cause: Refusal) -> bool
 impl fmt::Display for Spelled {
     ghost output = { λ s. Some (spelled_place s.0) };
 
+    #[tactic(auto, using(crate::proofs::Digits::six_shown))]
     fn fmt<W: fmt::Write>(&self, f: &mut fmt::Formatter<W>) -> fmt::Result {
         let space = letter_of(self.0.space);
         let address = self.0.address % WORDS;
@@ -92,6 +93,7 @@ impl fmt::Display for Refused {
 impl fmt::Display for Numbered {
     ghost output = { λ n. Some (written n.line n.answer) };
 
+    #[tactic(auto, using(crate::proofs::Digits::six_shown))]
     fn fmt<W: fmt::Write>(&self, f: &mut fmt::Formatter<W>) -> fmt::Result {
         let line = self.line;
         match self.answer {

@@ -1,7 +1,7 @@
 // Cutting a script into lines, each ended by a line feed but perhaps the last.
 ghost use Rattle.std.specs.Prelude.{◌≡◌, ◌<◌, [], ◌∷◌, length, IfSome, MatchOption, ◌==◌, position};
 ghost use Rattle.std.specs.Iterator.{YieldsFirstRef, item_count};
-ghost use Rattle.script.specs.Lines.{lines};
+ghost use Rattle.script.specs.Lines.{lines, lines_left};
 
 const LINE_FEED: u8 = b'\n';
 
@@ -13,7 +13,7 @@ pub struct Lines<'a> {
 
 impl<'a> Lines<'a> {
     pub fn new(input: &'a [u8]) -> Lines<'a>
-        ensures { result.rest.now ≡ input.now }
+        ensures { lines_left result ≡ lines input.now }
     {
         Lines { rest: input }
     }
@@ -22,9 +22,9 @@ impl<'a> Lines<'a> {
 impl<'a> Iterator for Lines<'a> {
     type Item = &'a [u8];
 
-    ghost next_gives = { YieldsFirstRef (λ s. lines s.rest.now) };
+    ghost next_gives = { YieldsFirstRef lines_left };
 
-    ghost remaining = { item_count (λ s. lines s.rest.now) };
+    ghost remaining = { item_count lines_left };
 
     fn next(&mut self) -> Option<&'a [u8]> {
         let (line, rest) = next_line(self.rest)?;

@@ -36,9 +36,7 @@ fn serve<M: Memory>(memory: &mut M, form: Form) -> Answer
         Form::Store(place, word) => memory
             .store(place, word)
             .map_or_else(Answer::Fault, |()| Answer::Done),
-        Form::Load(place) => memory
-            .load(place)
-            .map_or_else(Answer::Fault, Answer::Word),
+        Form::Load(place) => memory.load(place).map_or_else(Answer::Fault, Answer::Word),
         Form::Set(_, _)
         | Form::Get(_)
         | Form::Raise(_)
