@@ -112,38 +112,24 @@ fn take_serve(s: &[u8]) -> Option<(Form, &[u8])>
 fn take_bare(s: &[u8]) -> Option<(Form, &[u8])>
     ensures value { seen result ≡ first_way bare_forms s.now }
 {
-    if let Some(s) = skip(s, b"(slot)") {
-        return Some((Form::Slot, s));
-    }
-    if let Some(s) = skip(s, b"(stop)") {
-        return Some((Form::Stop, s));
-    }
-    Some((Form::Wake, skip(s, b"(wake)")?))
+    skip(s, b"(slot)")
+        .map(|s| (Form::Slot, s))
+        .or_else(|| Some((Form::Stop, skip(s, b"(stop)")?)))
+        .or_else(|| Some((Form::Wake, skip(s, b"(wake)")?)))
 }
 
 // A form by its first word.
 fn take_form(s: &[u8]) -> Option<(Form, &[u8])>
     ensures value { seen result ≡ first_way forms s.now }
 {
-    if let Some(s) = skip(s, b"(store ") {
-        return take_store(s);
-    }
-    if let Some(s) = skip(s, b"(load ") {
-        return take_load(s);
-    }
-    if let Some(s) = skip(s, b"(set ") {
-        return take_set(s);
-    }
-    if let Some(s) = skip(s, b"(get ") {
-        return take_get(s);
-    }
-    if let Some(s) = skip(s, b"(raise ") {
-        return take_raise(s);
-    }
-    if let Some(s) = skip(s, b"(serve ") {
-        return take_serve(s);
-    }
-    take_bare(s)
+    skip(s, b"(store ")
+        .map(take_store)
+        .or_else(|| skip(s, b"(load ").map(take_load))
+        .or_else(|| skip(s, b"(set ").map(take_set))
+        .or_else(|| skip(s, b"(get ").map(take_get))
+        .or_else(|| skip(s, b"(raise ").map(take_raise))
+        .or_else(|| skip(s, b"(serve ").map(take_serve))
+        .unwrap_or_else(|| take_bare(s))
 }
 
 // The form that the line spells, if it spells one.
@@ -152,5 +138,5 @@ pub fn read(line: &[u8]) -> Option<Form>
     ensures exact { Exact line.now result }
 {
     let (form, rest) = take_form(line)?;
-    if rest.is_empty() { Some(form) } else { None }
+    rest.is_empty().then_some(form)
 }

@@ -64,14 +64,14 @@ fn more_digits(value: u8, s: &[u8]) -> Option<(u8, &[u8])>
 {
     let mut number = value;
     let mut rest = s;
-    loop {
-        let (first, after) = rest.split_first()?;
+    while let Some((first, after)) = rest.split_first() {
         if *first == b')' {
             return Some((number, after));
         }
         number = with_digit(number, decimal_digit(*first)?)?;
         rest = after;
     }
+    None
 }
 
 // A number below 256 without a leading zero, and the parenthesis that closes it.

@@ -1,8 +1,10 @@
 -- The lines of an input, and that cutting at each line feed finds them. Assumes nothing.
-use Rattle.std.proofs.Common.{◌≡◌, ℕ, zero, suc, ◌+◌, ◌-◌, ◌<◌, ◌≤◌, true, false, cond, eqb, List, [], ◌∷◌, ◌++◌, length, get_or, take, drop, sym, refl, ap, ◌∙◌, subst, ⊎_elim, add-one, arith, length-drop, true-eqb, false-eqb}
-use native.Mathlib.Nat.{sub-zero}
-use Rattle.std.proofs.lemmas.List.{drop_all, nil_from_length, take_rest}
-use Rattle.std.proofs.lemmas.Bool.{eq-eqb, ne_eqb, cond-true, cond-false, cases_eq}
+use Rattle.std.proofs.Common.{◌≡◌, ℕ, zero, suc, ◌+◌, ◌-◌, ◌<◌, true, false, cond, eqb, List, [], ◌∷◌, ◌++◌, length, get_or, take, drop, sym, refl, ap, ◌∙◌, subst, ⊎_elim, add-one, arith, Some, None, Option, Bool, position}
+use Rattle.std.proofs.lemmas.List.{nil_from_length, take_rest}
+use Rattle.std.proofs.lemmas.List.Quantifiers.{position-Some}
+use Rattle.std.proofs.lemmas.List.Sums.{fails_before_first}
+use Rattle.std.specs.List.{position_or_len}
+use Rattle.std.proofs.lemmas.Bool.{eq-eqb, ne_eqb, eqb-true, eqb-false, ltb-false, cond-true, cond-false, cases_eq}
 use Rattle.script.specs.Lines.{longer, lines, NoFeed, Lines, none, last, more, Cut}
 
 at_feed_first : (b : ℕ) (input : List ℕ) → b ≡ 10 → lines (b ∷ input) ≡ [] ∷ lines input
@@ -17,8 +19,8 @@ lines_none : lines [] ≡ []
 unfolding lines
 lines_none = refl
 
-pub lines_of_empty : (input : List ℕ) → true ≡ eqb (length input) 0 → lines input ≡ []
-lines_of_empty input e = ap lines (nil_from_length input (true-eqb _ 0 e)) ∙ lines_none
+pub lines_of_empty : (input : List ℕ) → length input ≡ 0 → lines input ≡ []
+lines_of_empty input e = ap lines (nil_from_length input e) ∙ lines_none
 
 -- up to the first line feed
 lines_at_feed : (input : List ℕ) (n : ℕ) → n < length input → get_or input n 0 ≡ 10 → ((k : ℕ) → k < n → get_or input k 0 ≡ 10 → ⊥) → lines input ≡ take n input ∷ lines (drop (suc n) input)
@@ -69,19 +71,18 @@ pub cut_lines : (input : List ℕ) → Cut input (lines input)
 cut_lines input = record { sound = sound input; only = λ other h. only h }
 
 -- a line and the rest of the input, as the checker reads the code's parts
-pub cut_at_feed : (input : List ℕ) (n : ℕ) → n < length input → get_or input n 0 ≡ 10 → ((k : ℕ) → k < n → get_or input k 0 ≡ 10 → ⊥) → lines input ≡ take (n - 0) input ∷ lines (take (length input - (n + 1)) (drop (n + 1) input))
-cut_at_feed input n within found before = rw (take_rest, sub-zero, add-one) (lines_at_feed input n within found before)
+pub cut_at_feed : (input : List ℕ) (n : ℕ) → Some n ≡ position (λ b. eqb b 10) input → lines input ≡ take n input ∷ lines (take (length input - (n + 1)) (drop (n + 1) input))
+cut_at_feed input n e =
+    let first = position-Some (λ (b : ℕ). eqb b 10) input n 0 (sym e) in
+    rw (take_rest, add-one) (lines_at_feed input n first.0 (eqb-true _ _ first.1) (λ k h. eqb-false _ _ (first.2 k h)))
 
-pub cut_at_end : (input : List ℕ) (n : ℕ) → n ≡ length input → false ≡ eqb (length input) 0 → ((k : ℕ) → k < n → get_or input k 0 ≡ 10 → ⊥) → lines input ≡ input ∷ lines (take (length input - n) (drop n input))
-cut_at_end input n e some before =
-    let more = false-eqb (length input) 0 some in
-    lines_to_end input (omega arith) (λ k h. before k (omega arith))
-    ∙ ap (λ found. input ∷ found) (sym lines_none ∙ ap lines (sym (take_rest input n ∙ drop_all n input (omega arith))))
+nowhere : (b : Bool) (n : ℕ) → ◌≡◌ {A = Option ℕ} None (cond b (Some n) None) → b ≡ false
+nowhere true n e = cc
+nowhere false n e = refl
 
-pub rest_is_shorter : (input : List ℕ) (n : ℕ) → 0 < n → n ≤ length input → length (take (length input - n) (drop n input)) < length input
-rest_is_shorter input n some within = rw (take_rest, length-drop) (omega arith)
-
-pub end_is_shorter : (input : List ℕ) (n : ℕ) → n ≡ length input → false ≡ eqb (length input) 0 → length (take (length input - n) (drop n input)) < length input
-end_is_shorter input n e some =
-    let more = false-eqb (length input) 0 some in
-    rest_is_shorter input n (omega arith) (omega arith)
+pub cut_at_end : (input : List ℕ) → 0 < length input → None ≡ position (λ b. eqb b 10) input → lines input ≡ input ∷ lines []
+cut_at_end input some e =
+    let feed : ℕ → Bool = λ b. eqb b 10 in
+    let past = ltb-false (position_or_len feed input) (length input) (nowhere _ (position_or_len feed input) e) in
+    lines_to_end input some (λ k h. eqb-false _ _ (fails_before_first feed input k 0 (omega arith)))
+    ∙ ap (λ found. input ∷ found) (sym lines_none)

@@ -1,43 +1,92 @@
--- Hexadecimal digits, one after another from the highest. Assumes nothing.
-use Rattle.std.proofs.Common.{◌≡◌, ℕ, suc, ◌+◌, ◌-◌, ◌*◌, ◌/◌, ◌%◌, ◌^◌, ◌<◌, ◌≤◌, true, List, [], ◌∷◌, ◌++◌, sym, ap, ◌∙◌, div-one, arith, shr-shr}
-use lib.Utf8.{encode}
-use Rattle.std.proofs.lemmas.Bool.{lt-ltb, le-ltb, cond-true, cond-false}
-use Rattle.std.proofs.lemmas.Str.{encode_ascii}
-use Rattle.std.proofs.Output.{writes_in_calls_nil, has_written_append, has_written_of_eq}
-use Rattle.std.specs.declared.fmt.Formatter.{Formatter}
-use Rattle.std.specs.Fmt.{digit_glyph, IsPlainFormatter, HasWritten}
+-- What `{:06X}` writes: six hexadecimal digits. Assumes nothing.
+use Rattle.std.proofs.Common.{◌≡◌, ℕ, zero, suc, ◌+◌, ◌-◌, ◌*◌, ◌/◌, ◌%◌, ◌^◌, ◌<◌, true, false, List, [], ◌∷◌, ◌++◌, length, replicate, Some, sym, refl, ap, ◌∙◌, ⊎_elim, append_assoc, append-nil, arith, pow-suc}
+use Rattle.std.proofs.lemmas.Bool.{cases_lt, eq-eqb, ne_eqb, cond-true, cond-false}
+use Rattle.std.proofs.lemmas.Nat.{field_of, mod-pow-add, mod_low}
+use Rattle.std.specs.Fmt.{digit_glyph, digits_onto, digits, padded_integral, format_spec, char_count, digits_output, styled_digits_output}
+use Rattle.std.specs.Option.{option_map}
+use native.Mathlib.Nat.{sub-zero}
 use Rattle.forms.specs.Numerals.{hexadecimal}
 
-pub code_of_low : (d code : ℕ) → d < 10 → code ≡ 48 + d → encode code ≡ digit_glyph true d ∷ []
-code_of_low d code low e = encode_ascii code (omega arith) ∙ ap (λ c. c ∷ []) (e ∙ sym (cond-true _ _ _ (lt-ltb d 10 low)))
+abbrev zeros : ℕ → List ℕ
+zeros k = replicate k 48
 
-pub code_of_high : (d code : ℕ) → 10 ≤ d → d < 16 → code ≡ 65 + (d - 10) → encode code ≡ digit_glyph true d ∷ []
-code_of_high d code high low e =
-    let same : code ≡ 55 + d = omega arith in
-    encode_ascii code (omega arith) ∙ ap (λ c. c ∷ []) (same ∙ sym (cond-false _ _ _ (le-ltb d 10 high)))
+zero_more : (k : ℕ) → zeros k ++ (48 ∷ []) ≡ zeros (suc k)
+zero_more zero = refl
+zero_more (suc k) = ap (λ t. 48 ∷ t) (zero_more k)
 
--- the digit at the place p comes after those at the higher places
-pub hexadecimal_more : (width p n : ℕ) → p < width → hexadecimal (width - p) (n / 2 ^ (4 * p)) ≡ hexadecimal (width - (p + 1)) (n / 2 ^ (4 * (p + 1))) ++ digit_glyph true (n / 2 ^ (4 * p) % 16) ∷ []
-hexadecimal_more width p n h =
-    let more : width - p ≡ suc (width - (p + 1)) = omega arith in
-    let next : 4 * (p + 1) ≡ 4 * p + 4 = omega arith in
-    ap (λ k. hexadecimal k (n / 2 ^ (4 * p))) more
-    ∙ ap (λ m. hexadecimal (width - (p + 1)) m ++ digit_glyph true (n / 2 ^ (4 * p) % 16) ∷ []) (shr-shr n (4 * p) 4 ∙ ap (λ k. n / 2 ^ k) (sym next))
+-- a digit alone, after zeros
+one_digit : (k n : ℕ) → n < 16 → hexadecimal (suc k) n ≡ zeros k ++ (digit_glyph true n ∷ [])
+one_digit zero n h = let e : n % 16 ≡ n = omega arith in ap (λ d. digit_glyph true d ∷ []) e
+one_digit (suc k) n h =
+    let front : n / 16 ≡ 0 = omega arith in
+    let last : n % 16 ≡ n = omega arith in
+    let before = ap (hexadecimal (suc k)) front ∙ one_digit k 0 (omega arith) ∙ zero_more k in
+    ap (λ t. t ++ (digit_glyph true (n % 16) ∷ [])) before ∙ ap (λ d. zeros (suc k) ++ (digit_glyph true d ∷ [])) last
 
--- one more digit was put out
-pub put_digit : {W : Type 0} (took : W → List ℕ → W → Type 0) (f g h : Formatter W) (width q n code : ℕ) → 0 < q → q ≤ width → encode code ≡ digit_glyph true (n / 2 ^ (4 * (q - 1)) % 16) ∷ [] → HasWritten took f (hexadecimal (width - q) (n / 2 ^ (4 * q))) g → HasWritten took g (encode code) h → HasWritten took f (hexadecimal (width - (q - 1)) (n / 2 ^ (4 * (q - 1)))) h
-put_digit took f g h width q n code some within e before here =
-    let up : q - 1 + 1 ≡ q = omega arith in
-    let more = hexadecimal_more width (q - 1) n (omega arith) ∙ ap (λ k. hexadecimal (width - k) (n / 2 ^ (4 * k)) ++ digit_glyph true (n / 2 ^ (4 * (q - 1)) % 16) ∷ []) up in
-    has_written_of_eq took f _ _ h (sym more) (has_written_append took f _ g _ h before (has_written_of_eq took g _ _ h e here))
+onto_last : (i n : ℕ) (acc : List ℕ) → n / 16 ≡ 0 → digits_onto (suc i) 16 true n acc ≡ digit_glyph true (n % 16) ∷ acc
+onto_last i n acc e = cond-true _ _ _ (eq-eqb (n / 16) 0 e)
 
-pub put_none : {W : Type 0} (took : W → List ℕ → W → Type 0) (f : Formatter W) (width n : ℕ) → IsPlainFormatter f → HasWritten took f (hexadecimal (width - width) (n / 2 ^ (4 * width))) f
-put_none took f width n plain =
-    let nothing : width - width ≡ 0 = omega arith in
-    has_written_of_eq took f _ _ f (ap (λ k. hexadecimal k (n / 2 ^ (4 * width))) (sym nothing)) (record { wrote = writes_in_calls_nil took _; plain = plain })
+onto_more : (i n : ℕ) (acc : List ℕ) → (n / 16 ≡ 0 → ⊥) → digits_onto (suc i) 16 true n acc ≡ digits_onto i 16 true (n / 16) (digit_glyph true (n % 16) ∷ acc)
+onto_more i n acc ne = cond-false _ _ _ (ne_eqb (n / 16) 0 ne)
 
-pub put_all : {W : Type 0} (took : W → List ℕ → W → Type 0) (f g : Formatter W) (width q n : ℕ) → q ≤ 0 → HasWritten took f (hexadecimal (width - q) (n / 2 ^ (4 * q))) g → HasWritten took f (hexadecimal width n) g
-put_all took f g width q n end before =
-    let whole : width - q ≡ width = omega arith in
-    let none : q ≡ 0 = omega arith in
-    has_written_of_eq took f _ _ g (ap (λ k. hexadecimal k (n / 2 ^ (4 * q))) whole ∙ ap (λ k. hexadecimal width (n / 2 ^ (4 * k))) none ∙ ap (hexadecimal width) (div-one n)) before
+abbrev short : ℕ → List ℕ → List ℕ → ℕ
+short k acc ds = k + length acc - length ds
+
+-- a number of one digit, after as many zeros as are wanting
+last_digit : (k n : ℕ) (acc ds : List ℕ) → n < 16 → ds ≡ digit_glyph true (n % 16) ∷ acc → zeros (short (suc k) acc ds) ++ ds ≡ hexadecimal (suc k) n ++ acc
+last_digit k n acc ds one e =
+    let digit = digit_glyph true (n % 16) in
+    let wanting : short (suc k) acc (digit ∷ acc) ≡ k = omega arith in
+    let same : n % 16 ≡ n = omega arith in
+    ap (λ t. zeros (short (suc k) acc t) ++ t) e
+    ∙ ap (λ j. zeros j ++ (digit ∷ acc)) wanting
+    ∙ sym (append_assoc (zeros k) (digit ∷ []) acc)
+    ∙ ap (λ t. t ++ acc) (ap (λ d. zeros k ++ (digit_glyph true d ∷ [])) same ∙ sym (one_digit k n one))
+
+-- the digits of n, which are at most k + 1, after as many zeros as are wanting
+zeros_and_digits : (k i n : ℕ) (acc : List ℕ) → k < i → n < 16 ^ suc k → zeros (short (suc k) acc (digits_onto i 16 true n acc)) ++ digits_onto i 16 true n acc ≡ hexadecimal (suc k) n ++ acc
+zeros_and_digits k zero n acc room h = absurd (omega arith)
+zeros_and_digits zero (suc i) n acc room h = last_digit zero n acc (digits_onto (suc i) 16 true n acc) (omega arith) (onto_last i n acc (omega arith))
+zeros_and_digits (suc k) (suc i) n acc room h =
+    ⊎_elim
+    (λ one. last_digit (suc k) n acc (digits_onto (suc i) 16 true n acc) one (onto_last i n acc (omega arith)))
+    (λ more.
+    let digit = digit_glyph true (n % 16) in
+    let rest = digits_onto i 16 true (n / 16) (digit ∷ acc) in
+    let wanting : short (suc (suc k)) acc rest ≡ short (suc k) (digit ∷ acc) rest = omega arith in
+    ap (λ t. zeros (short (suc (suc k)) acc t) ++ t) (onto_more i n acc (λ e. omega arith))
+    ∙ ap (λ j. zeros j ++ rest) wanting
+    ∙ zeros_and_digits k i (n / 16) (digit ∷ acc) (omega arith) (omega (arith, pow-suc 16 (suc k)))
+    ∙ sym (append_assoc (hexadecimal (suc k) (n / 16)) (digit ∷ []) acc))
+    (cases_lt n 16)
+
+pub low_digits : (k n : ℕ) → hexadecimal k (n % 2 ^ (4 * k)) ≡ hexadecimal k n
+low_digits zero n = refl
+low_digits (suc k) n =
+    let wide : 4 * suc k ≡ 4 * k + 4 = omega arith in
+    let front : n % 2 ^ (4 * suc k) / 16 ≡ n / 16 % 2 ^ (4 * k) = rw wide (field_of n (4 * k) 4) in
+    let last : n % 2 ^ (4 * suc k) % 16 ≡ n % 16 = rw (wide, mod-pow-add n (4 * k) 4) (mod_low (n / 2 ^ 4 % 2 ^ (4 * k)) 4 (n % 2 ^ 4) (omega arith)) in
+    ap (λ m. hexadecimal k m ++ (digit_glyph true (n % 2 ^ (4 * suc k) % 16) ∷ [])) front
+    ∙ ap (λ t. t ++ (digit_glyph true (n % 2 ^ (4 * suc k) % 16) ∷ [])) (low_digits k (n / 16))
+    ∙ ap (λ d. hexadecimal k (n / 16) ++ (digit_glyph true d ∷ [])) last
+
+digits_are : (n : ℕ) → digits 16 true n ≡ digits_onto 64 16 true n []
+unfolding digits
+digits_are n = refl
+
+filled : (ds : List ℕ) → padded_integral (format_spec 32 0 4 6 (2 ^ 64 - 1)) false [] ds ≡ zeros (6 - length ds) ++ ds
+unfolding padded_integral char_count
+filled ds = simp (append-nil, sub-zero)
+
+pub six_digits : (n : ℕ) → padded_integral (format_spec 32 0 4 6 (2 ^ 64 - 1)) false [] (digits 16 true (n % 2 ^ 24)) ≡ hexadecimal 6 n
+six_digits n =
+    let m = n % 2 ^ 24 in
+    filled (digits 16 true m) ∙ ap (λ ds. zeros (6 - length ds) ++ ds) (digits_are m)
+    ∙ zeros_and_digits 5 64 m [] (omega arith) (omega arith) ∙ append-nil (hexadecimal 6 m) ∙ low_digits 6 n
+
+-- what the hole shows
+pub six_shown : (d : _) (s : _) (n : ℕ) → digits_output d ≡ Some (digits 16 true (n % 2 ^ 24)) → s ≡ format_spec 32 0 4 6 (2 ^ 64 - 1) → styled_digits_output d s ≡ Some (hexadecimal 6 n)
+six_shown d s n e f =
+    ap (λ t. styled_digits_output d t) f
+    ∙ ap (option_map (padded_integral (format_spec 32 0 4 6 (2 ^ 64 - 1)) false [])) e
+    ∙ ap Some (six_digits n)

@@ -1,3 +1,2 @@
-mod Cutting
-mod Digits
-mod Turns
+pub mod Cutting
+pub mod Digits

@@ -1,5 +1,6 @@
 -- What the lines of a script are.
-use Rattle.std.specs.Prelude.{◌≡◌, ℕ, ◌<◌, cond, List, [], ◌∷◌, ◌++◌, length, ◌==◌, ◌≢◌, slice_index}
+use Rattle.std.specs.Prelude.{◌≡◌, ℕ, ◌<◌, if◌then◌else◌, List, [], ◌∷◌, ◌++◌, length, ◌==◌, ◌≢◌, slice_index}
+use Rattle.script.specs.declared.lines.Lines as iterator
 
 abbrev pub line_feed : ℕ
 line_feed = 10
@@ -12,7 +13,11 @@ longer b (line ∷ more) = (b ∷ line) ∷ more
 -- a line feed ends a line; any other byte belongs to the line that is read next
 unfoldable pub lines : List ℕ → List (List ℕ)
 lines [] = []
-lines (b ∷ input) = cond (b == line_feed) ([] ∷ lines input) (longer b (lines input))
+lines (b ∷ input) = if b == line_feed then [] ∷ lines input else longer b (lines input)
+
+-- the lines that an iterator has still to give
+abbrev pub lines_left : iterator.Lines → List (List ℕ)
+lines_left s = lines s.rest.now
 
 abbrev pub NoFeed : List ℕ → Type 0
 NoFeed line = (k : ℕ) → k < length line → slice_index line k ≢ line_feed

@@ -1,5 +1,5 @@
 -- The listing of a script over a memory, and the memory that the script leaves.
-use Rattle.std.specs.Prelude.{ℕ, suc, cond, List, [], ◌∷◌, ◌++◌, map, length, take, Some, None, Ok, Err, codes, Option, Result, nat_lt}
+use Rattle.std.specs.Prelude.{ℕ, suc, if◌then◌else◌, List, [], ◌∷◌, ◌++◌, map, length, take, Some, None, Ok, Err, Option, Result, nat_lt}
 use Rattle.memory.specs.declared.refusal.Fault as fault
 use Rattle.memory.specs.Meaning.{Meaning, load_answer, store_answer, after_store}
 use Rattle.forms.specs.declared.form.Form.{Form}
@@ -21,7 +21,7 @@ most_bytes = 80
 
 -- the form that a line asks for: a line that is too long asks for none
 abbrev pub request_of : List ℕ → Option Form
-request_of line = cond (nat_lt most_bytes (length line)) None (form_of line)
+request_of line = if nat_lt most_bytes (length line) then None else form_of line
 
 abbrev pub requests_of : List ℕ → List (Option Form)
 requests_of input = map request_of (take most_lines (lines input))

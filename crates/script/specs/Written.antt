@@ -1,6 +1,6 @@
 -- How an answer is written in the listing.
-use Rattle.std.specs.Prelude.{ℕ, Bool, cond, ◌&&◌, List, [], ◌++◌, codes, decimal, nat_le}
-use Rattle.std.proofs.Math.Utf8.{encode}
+use Rattle.std.specs.Prelude.{ℕ, Bool, if◌then◌else◌, ◌&&◌, List, [], ◌++◌, codes, decimal, nat_le}
+use Rattle.std.specs.Char.{encode_utf8}
 use Rattle.memory.specs.declared.refusal.Fault as fault
 use Rattle.memory.specs.declared.refusal.Refusal.{Refusal}
 use Rattle.memory.specs.declared.refusal.Refusal.TheVariants as refusal
@@ -19,10 +19,10 @@ refused cause line = codes "(refused " ++ decimal (number cause) ++ codes " at "
 
 -- the place, its owner's letter and its owner's depth
 abbrev pub whereabouts : fault.Fault → List ℕ
-whereabouts f = codes " " ++ spelled_place f.place ++ codes " " ++ encode f.owner.letter ++ codes " " ++ decimal f.owner.depth
+whereabouts f = codes " " ++ spelled_place f.place ++ codes " " ++ encode_utf8 f.owner.letter ++ codes " " ++ decimal f.owner.depth
 
 abbrev pub written_fault : ℕ → fault.Fault → List ℕ
-written_fault line f = refused f.cause line ++ cond (tells_place f.cause) (whereabouts f) [] ++ codes ")"
+written_fault line f = refused f.cause line ++ (if tells_place f.cause then whereabouts f else []) ++ codes ")"
 
 -- the answer to the line of that number
 abbrev pub written : ℕ → Answer → List ℕ

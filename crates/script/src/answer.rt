@@ -1,13 +1,15 @@
 // What a line is answered, and how the answer is written in the listing.
 ghost use Rattle.std.specs.Prelude.{◌≡◌, Some};
-ghost use Rattle.std.proofs.Math.Utf8.{encode};
+ghost use Rattle.std.specs.Char.{encode_utf8};
 ghost use Rattle.forms.specs.Spelling.{letter, spelled_place};
 ghost use Rattle.script.specs.Written.{tells_place, written_fault, written};
 
-use crate::hexadecimal::Hexadecimal;
 use memory::place::{Place, Space};
 use memory::refusal::{Fault, Refusal};
 use std::fmt;
+
+// How many words there are: of a greater number the listing has the lowest 24 bits.
+const WORDS: u32 = 0x100_0000;
 
 #[derive(Clone, Copy, PartialEq, Debug)]
 pub enum Answer {
@@ -30,9 +32,7 @@ pub struct Numbered {
 
 // A place as scripts spell it.
 #[derive(Clone, Copy)]
-struct Spelled {
-    place: Place,
-}
+struct Spelled(Place);
 
 // A memory's refusal of the line with that number.
 #[derive(Clone, Copy)]
@@ -41,8 +41,9 @@ struct Refused {
     fault: Fault,
 }
 
+// No `From`: neither `char` nor `Space` is a type of this crate.
 fn letter_of(space: Space) -> char
-    ensures { encode result ≡ letter space }
+    ensures { encode_utf8 result ≡ letter space }
 {
     match space {
         Space::X => 'x',
@@ -55,19 +56,20 @@ fn letter_of(space: Space) -> char
 fn tells_place(cause: Refusal) -> bool
     ensures { result ≡ tells_place cause }
 {
-    match cause {
-        Refusal::AbsentLoad | Refusal::AbsentStore | Refusal::FixedStore => true,
-        _ => false,
-    }
+    matches!(
+        cause,
+        Refusal::AbsentLoad | Refusal::AbsentStore | Refusal::FixedStore
+    )
 }
 
 impl fmt::Display for Spelled {
-    ghost output = { λ s. Some (spelled_place s.place) };
+    ghost output = { λ s. Some (spelled_place s.0) };
 
+    #[tactic(auto, using(crate::proofs::Digits::six_shown))]
     fn fmt<W: fmt::Write>(&self, f: &mut fmt::Formatter<W>) -> fmt::Result {
-        let space = letter_of(self.place.space);
-        let address = Hexadecimal::word(self.place.address);
-        write!(f, "({space} {address})")
+        let space = letter_of(self.0.space);
+        let address = self.0.address % WORDS;
+        write!(f, "({space} {address:06X})")
     }
 }
 
@@ -78,9 +80,7 @@ impl fmt::Display for Refused {
         let line = self.line;
         let number = u8::from(self.fault.cause);
         if tells_place(self.fault.cause) {
-            let place = Spelled {
-                place: self.fault.place,
-            };
+            let place = Spelled(self.fault.place);
             let owner = self.fault.owner.letter;
             let depth = self.fault.owner.depth;
             write!(f, "(refused {number} at {line} {place} {owner} {depth})")
@@ -93,13 +93,14 @@ impl fmt::Display for Refused {
 impl fmt::Display for Numbered {
     ghost output = { λ n. Some (written n.line n.answer) };
 
+    #[tactic(auto, using(crate::proofs::Digits::six_shown))]
     fn fmt<W: fmt::Write>(&self, f: &mut fmt::Formatter<W>) -> fmt::Result {
         let line = self.line;
         match self.answer {
             Answer::Done => write!(f, "(ok)"),
             Answer::Word(value) => {
-                let word = Hexadecimal::word(value);
-                write!(f, "(word {word})")
+                let word = value % WORDS;
+                write!(f, "(word {word:06X})")
             }
             Answer::Fault(fault) => {
                 let refused = Refused { line, fault };

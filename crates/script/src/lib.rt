@@ -2,7 +2,6 @@
 #![tactic(auto)]
 
 pub mod answer;
-pub mod hexadecimal;
 pub mod lines;
 pub mod listing;
 #[cfg(test)]

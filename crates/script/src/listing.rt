@@ -4,7 +4,7 @@ ghost use Rattle.script.specs.Lines.{lines, Cut};
 ghost use Rattle.script.specs.Listing.{request_of, requests_of, form_answer, after_form, answer_of, after_request, AnswerFits, answers_of, after_all, written_from, listing_of, memory_after};
 
 use crate::answer::{Answer, Numbered};
-use crate::lines::next_line;
+use crate::lines::Lines;
 use forms::form::Form;
 use forms::reading::read;
 use memory::interface::Memory;
@@ -33,14 +33,10 @@ fn serve<M: Memory>(memory: &mut M, form: Form) -> Answer
     ensures words_fit { AnswerFits result }
 {
     match form {
-        Form::Store(place, word) => match memory.store(place, word) {
-            Ok(()) => Answer::Done,
-            Err(fault) => Answer::Fault(fault),
-        },
-        Form::Load(place) => match memory.load(place) {
-            Ok(word) => Answer::Word(word),
-            Err(fault) => Answer::Fault(fault),
-        },
+        Form::Store(place, word) => memory
+            .store(place, word)
+            .map_or_else(Answer::Fault, |()| Answer::Done),
+        Form::Load(place) => memory.load(place).map_or_else(Answer::Fault, Answer::Word),
         Form::Set(_, _)
         | Form::Get(_)
         | Form::Raise(_)
@@ -68,18 +64,10 @@ pub fn requests(heap: Global, input: &[u8]) -> Result<Vec<Option<Form>>, AllocEr
     ensures value { IfOk result (λ v. v.items ≡ requests_of input.now) }
     ensures cut { Cut input.now (lines input.now) }
 {
-    let mut forms = Vec::new(heap);
-    let mut rest = input;
-    while forms.len() < MOST_LINES {
-        match next_line(rest) {
-            None => return Ok(forms),
-            Some((line, after)) => {
-                forms.push(request(line))?;
-                rest = after;
-            }
-        }
-    }
-    Ok(forms)
+    Lines::new(input)
+        .take(MOST_LINES)
+        .map(request)
+        .collect(heap)
 }
 
 // Answers every line in turn. Room for all answers is had before the first call, so that want of memory leaves the memory as it was.
@@ -92,8 +80,8 @@ pub fn answer_all<M: Memory>(
     ensures after { MatchResult result (λ _. M.meaning memory.new ≡ after_all (M.meaning memory.old) forms.now) (λ _. M.meaning memory.new ≡ M.meaning memory.old) }
 {
     let mut answers = Vec::with_capacity(heap, forms.len())?;
-    for form in forms {
-        answers.push_reserved(answer(memory, *form));
+    for form in forms.iter().copied() {
+        answers.push_reserved(answer(memory, form));
     }
     Ok(answers)
 }
@@ -103,15 +91,12 @@ pub fn written(heap: Global, answers: &[Answer]) -> Result<String, AllocError>
     ensures value { IfOk result (λ s. string_bytes s ≡ written_from 1 answers.now) }
 {
     let mut text = String::new(heap);
-    for (i, answer) in answers.iter().enumerate() {
-        let line = Numbered {
-            line: i + 1,
+    for (answer, line) in answers.iter().zip(1..) {
+        let answered = Numbered {
+            line,
             answer: *answer,
         };
-        match writeln!(text, "{line}") {
-            Ok(()) => {}
-            Err(_) => return Err(AllocError),
-        }
+        writeln!(text, "{answered}")?;
     }
     Ok(text)
 }

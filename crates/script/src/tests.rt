@@ -17,19 +17,10 @@ use std::test::Fail;
 #[derive(Drop)]
 struct Addresses;
 
-fn fault(cause: Refusal, place: Place) -> Fault
-    ensures { result ≡ record { cause = cause; place = place; owner = record { letter = 65; depth = 0 } } }
-{
-    let owner = Owner {
-        letter: 'A',
-        depth: 0,
-    };
-    Fault {
-        cause,
-        place,
-        owner,
-    }
-}
+const OWNER: Owner = Owner {
+    letter: 'A',
+    depth: 0,
+};
 
 impl Memory for Addresses {
     ghost meaning = { λ _. record { kind = λ p. (if nat_lt 0xFFFFFF p.address then Absent else Fixed); word = λ p. p.address % 0x1000000; owner = λ _. record { letter = 65; depth = 0 } } };
@@ -48,19 +39,19 @@ impl Memory for Addresses {
 
     fn load(&mut self, place: Place) -> Result<u32, Fault> {
         if place.address > 0xFF_FFFF {
-            return Err(fault(Refusal::AbsentLoad, place));
+            return Err(OWNER.fault(Refusal::AbsentLoad, place));
         }
         Ok(place.address % 0x100_0000)
     }
 
     fn store(&mut self, place: Place, word: u32) -> Result<(), Fault> {
         if word > 0xFF_FFFF {
-            return Err(fault(Refusal::ValueTooLarge, place));
+            return Err(OWNER.fault(Refusal::ValueTooLarge, place));
         }
         if place.address > 0xFF_FFFF {
-            return Err(fault(Refusal::AbsentStore, place));
+            return Err(OWNER.fault(Refusal::AbsentStore, place));
         }
-        Err(fault(Refusal::FixedStore, place))
+        Err(OWNER.fault(Refusal::FixedStore, place))
     }
 }
 
@@ -90,8 +81,8 @@ fn answers_are_written(rt: HostRuntime) -> Result<(), Fail> {
         space: Space::Y,
         address: 0x101,
     };
-    let absent = Answer::Fault(fault(Refusal::AbsentLoad, place));
-    let large = Answer::Fault(fault(Refusal::ValueTooLarge, place));
+    let absent = Answer::Fault(OWNER.fault(Refusal::AbsentLoad, place));
+    let large = Answer::Fault(OWNER.fault(Refusal::ValueTooLarge, place));
     writes(&rt, Answer::Done, "(ok)")?;
     writes(&rt, Answer::Word(0xAA), "(word 0000AA)")?;
     writes(&rt, absent, "(refused 13 at 7 (y 000101) A 0)")?;
@@ -107,7 +98,7 @@ fn forms_are_answered_in_turn(rt: HostRuntime) -> Result<(), Fail> {
     };
     let forms = [Some(Form::Load(place)), Some(Form::Store(place, 1)), None];
     let answers = answer_all(rt.alloc(), &mut Addresses, &forms)?;
-    let refused = Answer::Fault(fault(Refusal::FixedStore, place));
+    let refused = Answer::Fault(OWNER.fault(Refusal::FixedStore, place));
     let wanted = [Answer::Word(0xABC), refused, Answer::NoForm];
     assert!(rt; answers.as_slice() == wanted.as_slice());
     Ok(())

@@ -7,10 +7,6 @@ pub returns-in_err-form : goal.returns-in_err-form
 unfolding form_of
 returns-in_err-form c = search (rules, exact_reading)
 
-pub returns-then-is_empty : goal.returns-then-is_empty
+pub returns : goal.returns
 unfolding form_of
-returns-then-is_empty c = search (rules, exact_reading)
-
-pub returns-else-is_empty : goal.returns-else-is_empty
-unfolding form_of
-returns-else-is_empty c = search (rules, exact_reading)
+returns c = search (rules, exact_reading)
