@@ -18,7 +18,8 @@ use Rattle.dma.specs.Channels.{zero_settings, settings, layout, preloaded, count
 use Rattle.dma.specs.Raises.{asked}
 use Rattle.dma.specs.Stops.{halted}
 use Rattle.dma.specs.Refusing.{unless}
-use Rattle.dma.specs.Sets.{unknown, channel_of, row_refusal, row_set, with_row, change, shared_refusal, shared_set, set_refusal, after_set}
+use Rattle.registers.specs.Names.{unknown, channel_of}
+use Rattle.dma.specs.Sets.{row_refusal, row_set, with_row, change, shared_refusal, shared_set, set_refusal, after_set}
 use Rattle.dma.specs.Services.{with_service}
 use Rattle.dma.specs.Soundness.{sound}
 use Rattle.dma.specs.State.{State, reset_row, row_at}
@@ -41,7 +42,7 @@ sound_unless o r n q e s keeps =
 
 -- a set of a channel's register, by the row that it leaves
 module _ (s : State) (register : Register) (value c : ℕ) (known : unknown register ≡ false) (fits : value ≤ 0xFFFFFF) (own : channel_of register ≡ Some c) where
-  refused_as_the_row : set_refusal s register value ≡ row_refusal (row_at s.rows c) register value
+  pub refused_as_the_row : set_refusal s register value ≡ row_refusal (row_at s.rows c) register value
   refused_as_the_row = λ i.
       cond (known i) (Some NoSuchRegister)
       (cond (le-ltb 0xFFFFFF value fits i) (Some ValueTooLarge)

@@ -2,7 +2,7 @@ pub mod Changes
 pub mod Contests
 pub mod ControlSets
 pub mod Listeners
-pub mod Masks
+pub mod MaskBits
 pub mod Refusals
 pub mod SoundRows
 pub mod Tables

@@ -1,8 +1,11 @@
 // The names by which a console and a script reach the registers.
-ghost use Rattle.std.specs.Prelude.{◌≡◌};
-ghost use Rattle.registers.specs.Names.{unknown, channel_of};
+ghost use Rattle.std.specs.Prelude.{◌≡◌, Ok, Err, if◌then◌else◌};
+ghost use Rattle.memory.specs.declared.refusal.Refusal.TheVariants.{NoSuchRegister};
+ghost use Rattle.registers.specs.Names.{unknown};
 
-// A register by its name, with the number of its channel or, for an offset, its own number. The number stands as it was written: see `unknown`.
+use memory::refusal::Refusal;
+
+// A register by its name, with the number of its channel or, for an offset, its own number. The number stands as it was written: see `known`.
 #[derive(Clone, Copy, PartialEq, Eq, Debug)]
 pub enum Register {
     Dsr(u8),
@@ -14,24 +17,17 @@ pub enum Register {
 }
 
 impl Register {
-    // Whether there is no register of that number.
-    pub fn unknown(self) -> bool
-        ensures value { result ≡ unknown self }
+    // Refused where there is no register of that number.
+    pub fn known(self) -> Result<(), Refusal>
+        ensures value { result ≡ (if unknown self then Err NoSuchRegister else Ok tt) }
     {
         match self {
-            Register::Dsr(c) | Register::Ddr(c) | Register::Dco(c) | Register::Dcr(c) => c > 5,
-            Register::Dor(i) => i > 3,
-            Register::Dstr => false,
-        }
-    }
-
-    // The channel that the register belongs to; the offsets and the status are all channels'.
-    pub fn channel(self) -> Option<u8>
-        ensures value { result ≡ channel_of self }
-    {
-        match self {
-            Register::Dsr(c) | Register::Ddr(c) | Register::Dco(c) | Register::Dcr(c) => Some(c),
-            Register::Dor(_) | Register::Dstr => None,
+            Register::Dsr(0..=5)
+            | Register::Ddr(0..=5)
+            | Register::Dco(0..=5)
+            | Register::Dcr(0..=5) => Ok(()),
+            Register::Dor(0..=3) | Register::Dstr => Ok(()),
+            _ => Err(Refusal::NoSuchRegister),
         }
     }
 }

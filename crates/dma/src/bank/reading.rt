@@ -59,9 +59,7 @@ impl Bank {
     pub fn get(&self, register: Register) -> Result<u32, Refusal>
         ensures value { result ≡ get_answer (state_of self.now) register }
     {
-        if register.unknown() {
-            return Err(Refusal::NoSuchRegister);
-        }
+        register.known()?;
         match register {
             Register::Dsr(c) => Ok(self.rows[c as usize].source),
             Register::Ddr(c) => Ok(self.rows[c as usize].destination),

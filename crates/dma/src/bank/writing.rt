@@ -23,9 +23,7 @@ impl Bank {
         ensures value { result ≡ set_answer (state_of self.old) register value }
         ensures after { state_of self.new ≡ after_set (state_of self.old) register value }
     {
-        if register.unknown() {
-            return Err(Refusal::NoSuchRegister);
-        }
+        register.known()?;
         if value > 0xFF_FFFF {
             return Err(Refusal::ValueTooLarge);
         }

@@ -1,8 +1,9 @@
-use Rattle.std.proofs.Common.{rules, arith, ◌∙◌}
+use Rattle.std.proofs.Common.{rules, arith, ◌≡◌, sym, ap, ◌∙◌}
 use Rattle.dma.specs.Sets.{row_refusal, row_set}
 use Rattle.dma.specs.Banks.{state_of}
 use Rattle.dma.specs.State.{row_at}
-use Rattle.dma.proofs.Changes.{sound_unless, row_set_keeps, channel_set}
+use Rattle.dma.specs.Refusing.{answer}
+use Rattle.dma.proofs.Changes.{sound_unless, row_set_keeps, refused_as_the_row, channel_set}
 use Rattle.dma.proofs.bank.Bank.set.Goals as goal
 
 pub change_row-requires-clause-leaves_sound : goal.change_row-requires-clause-leaves_sound
@@ -14,6 +15,14 @@ change_row-requires-clause-leaves_sound c answer row ran =
     let value = c.args.value in
     let fits = c.if-value-gt16777215.false in
     sound_unless (row_refusal r register value) r (row_set r register value) row (search rules) (b.channels channel) (row_set_keeps r register value (omega arith))
+
+pub returns-in_ok-try_from-in-Dsr-clause-value : goal.returns-in_ok-try_from-in-Dsr-clause-value
+returns-in_ok-try_from-in-Dsr-clause-value c =
+    let b = c.args.self.now in
+    let channel = c.in_ok-try_from-in-Dsr.field-0 in
+    let w = c.in-Dsr in
+    let row_answer : c.change_row.result ≡ answer (row_refusal (row_at b.rows channel) c.args.register c.args.value) = search rules in
+    row_answer ∙ ap answer (sym (refused_as_the_row (state_of b) c.args.register c.args.value channel (search rules) (omega arith) (search rules)))
 
 pub returns-in_ok-try_from-in-Dsr-clause-after : goal.returns-in_ok-try_from-in-Dsr-clause-after
 returns-in_ok-try_from-in-Dsr-clause-after c =

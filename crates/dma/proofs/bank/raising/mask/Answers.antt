@@ -1,7 +1,7 @@
 use Rattle.std.proofs.Common.{rules, ◌≡◌, reverse, ◌∙◌}
 use Rattle.std.specs.List.{fold}
 use Rattle.std.proofs.iter.runs.Made.{chains}
-use Rattle.dma.proofs.Masks.{shifted, shifted_together}
+use Rattle.dma.proofs.MaskBits.{shifted, shifted_together}
 use Rattle.dma.proofs.bank.raising.mask.Goals as goal
 
 pub returns : goal.returns
