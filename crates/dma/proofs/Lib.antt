@@ -2,7 +2,6 @@ pub mod Changes
 pub mod Contests
 pub mod ControlSets
 pub mod Listeners
-pub mod Refusals
 pub mod SoundRows
 pub mod Tables
 pub mod Turns
