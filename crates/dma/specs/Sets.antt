@@ -1,5 +1,5 @@
 -- What a set of a register is refused with, and what it leaves.
-use Rattle.std.specs.Prelude.{ℕ, ◌-◌, ◌*◌, ◌^◌, Bool, true, false, cond, not, ◌&&◌, ◌||◌, is_some, Some, None, Option, Result, ◌==◌, nat_lt, slice_set}
+use Rattle.std.specs.Prelude.{ℕ, ◌-◌, ◌*◌, ◌^◌, Bool, true, false, if◌then◌else◌, not, ◌&&◌, ◌||◌, is_some, Some, None, Option, Result, ◌==◌, nat_lt, slice_set}
 use Rattle.memory.specs.declared.refusal.Refusal.{Refusal}
 use Rattle.memory.specs.declared.refusal.Refusal.TheVariants.{NoSuchRegister, ValueTooLarge, StatusIsRead, Busy, ReservedMode, ReservedShape, ReservedSpace, ShapeInMidBlock}
 use Rattle.registers.specs.Names.{unknown, channel_of}
@@ -23,19 +23,21 @@ reshapes held word = not (field 4 7 held == field 4 7 word)
 -- a control word for a channel at rest
 abbrev pub at_rest_refusal : Row → ℕ → Option Refusal
 at_rest_refusal r word =
-    cond (not (is_some (mode_of (mode_number word)))) (Some ReservedMode)
-    (cond (not (is_some (shape_of word))) (Some ReservedShape)
-    (cond (not (is_some (spaces_of word))) (Some ReservedSpace)
-    (cond (reshapes r.control word && not (position (preloaded r) (counted r) == 0)) (Some ShapeInMidBlock) None)))
+    if not (is_some (mode_of (mode_number word))) then Some ReservedMode
+    else if not (is_some (shape_of word)) then Some ReservedShape
+    else if not (is_some (spaces_of word)) then Some ReservedSpace
+    else if reshapes r.control word && not (position (preloaded r) (counted r) == 0) then Some ShapeInMidBlock
+    else None
 
 -- while DE is 1 only DE can be cleared; while the channel drains nothing can be set
 abbrev pub control_refusal : Row → ℕ → Option Refusal
 control_refusal r word =
-    cond (enable r.control) (cond (word == r.control || word == disabled r.control) None (Some Busy))
-    (cond r.active (Some Busy) (at_rest_refusal r word))
+    if enable r.control then (if word == r.control || word == disabled r.control then None else Some Busy)
+    else if r.active then Some Busy
+    else at_rest_refusal r word
 
 abbrev pub if_busy : Row → Option Refusal
-if_busy r = cond (busy r) (Some Busy) None
+if_busy r = if busy r then Some Busy else None
 
 -- what a set of a channel's own register is refused with
 abbrev pub row_refusal : Row → Register → ℕ → Option Refusal
@@ -44,96 +46,37 @@ row_refusal r register value =
 
 -- DE is set from 0: the channel is active, and in DTM 3 the rest of the block is due
 abbrev pub switched_on : Row → Row
-switched_on r = record {
-  source = r.source;
-  destination = r.destination;
-  count = r.count;
-  preload = r.preload;
-  control = r.control;
-  due = cond (starts_by_enable (settings r).mode) (made_due r) r.due;
-  active = true;
-  requested = r.requested;
-  serving = r.serving;
-}
+switched_on r = record r { due = if starts_by_enable (settings r).mode then made_due r else r.due; active = true }
 
 -- the channel comes to rest; words still due are lost
 abbrev pub at_rest : Row → Bool → Row
-at_rest r requested = record {
-  source = r.source;
-  destination = r.destination;
-  count = r.count;
-  preload = r.preload;
-  control = r.control;
-  due = 0;
-  active = false;
-  requested = requested;
-  serving = r.serving;
-}
+at_rest r requested = record r { due = 0; active = false; requested = requested }
 
 -- DE is cleared: with nothing due the channel is done; a due word of DTM 1 and 5 drains first; other due words are lost, with an interrupt if DIE is 1
 abbrev pub switched_off : Row → Row
 switched_off r =
-    cond (r.due == 0) (at_rest r r.requested)
-    (cond (by_words (settings r).mode) r (at_rest r (r.requested || (settings r).interrupts)))
+    if r.due == 0 then at_rest r r.requested
+    else if by_words (settings r).mode then r
+    else at_rest r (r.requested || (settings r).interrupts)
 
 abbrev pub with_control : Row → ℕ → Row
-with_control r word = record {
-  source = r.source;
-  destination = r.destination;
-  count = r.count;
-  preload = r.preload;
-  control = word;
-  due = r.due;
-  active = r.active;
-  requested = r.requested;
-  serving = r.serving;
-}
+with_control r word = record r { control = word }
 
 -- the word is held, and DE rises, falls or stays
 abbrev pub after_control : Row → ℕ → Row
 after_control r word =
     let n = with_control r word in
-    cond (enable r.control) (cond (enable word) n (switched_off n)) (cond (enable word) (switched_on n) n)
+    if enable r.control then (if enable word then n else switched_off n) else if enable word then switched_on n else n
 
 abbrev pub with_source : Row → ℕ → Row
-with_source r address = record {
-  source = address;
-  destination = r.destination;
-  count = r.count;
-  preload = r.preload;
-  control = r.control;
-  due = r.due;
-  active = r.active;
-  requested = r.requested;
-  serving = r.serving;
-}
+with_source r address = record r { source = address }
 
 abbrev pub with_destination : Row → ℕ → Row
-with_destination r address = record {
-  source = r.source;
-  destination = address;
-  count = r.count;
-  preload = r.preload;
-  control = r.control;
-  due = r.due;
-  active = r.active;
-  requested = r.requested;
-  serving = r.serving;
-}
+with_destination r address = record r { destination = address }
 
 -- a set of DCO fixes both count and preload
 abbrev pub with_counter : Row → ℕ → Row
-with_counter r word = record {
-  source = r.source;
-  destination = r.destination;
-  count = word;
-  preload = word;
-  control = r.control;
-  due = r.due;
-  active = r.active;
-  requested = r.requested;
-  serving = r.serving;
-}
+with_counter r word = record r { count = word; preload = word }
 
 -- what it leaves of the channel
 abbrev pub row_set : Row → Register → ℕ → Row
@@ -166,9 +109,9 @@ shared_set s register value = elim register [ Dsr c ↦ s | Ddr c ↦ s | Dco c 
 
 abbrev pub set_refusal : State → Register → ℕ → Option Refusal
 set_refusal s register value =
-    cond (unknown register) (Some NoSuchRegister)
-    (cond (nat_lt 0xFFFFFF value) (Some ValueTooLarge)
-    (elim (channel_of register) [ Some c ↦ row_refusal (row_at s.rows c) register value | None ↦ shared_refusal register ]))
+    if unknown register then Some NoSuchRegister
+    else if nat_lt 0xFFFFFF value then Some ValueTooLarge
+    else elim (channel_of register) [ Some c ↦ row_refusal (row_at s.rows c) register value | None ↦ shared_refusal register ]
 
 abbrev pub set_state : State → Register → ℕ → State
 set_state s register value =

@@ -1,5 +1,5 @@
 -- One slot: at most one word moves.
-use Rattle.std.specs.Prelude.{ℕ, ◌+◌, ◌-◌, Bool, false, cond, not, ◌&&◌, ◌||◌, List, ◌==◌, slice_set}
+use Rattle.std.specs.Prelude.{ℕ, ◌+◌, ◌-◌, Bool, false, if◌then◌else◌, not, ◌&&◌, ◌||◌, List, ◌==◌, slice_set}
 use Rattle.memory.specs.declared.place.Place.{Place}
 use Rattle.registers.specs.Counter.{joined, stepped, ends_block}
 use Rattle.registers.specs.Updates.{updated}
@@ -31,35 +31,23 @@ drains r = draining r && r.due == 1
 
 -- a channel after it moved a word
 abbrev pub advanced : List ℕ → Row → Row
-advanced offsets r = record {
+advanced offsets r = record r {
   source = updated (settings r).shape.source offsets (counted r) r.source;
   destination = updated (settings r).shape.destination offsets (counted r) r.destination;
   count = joined (layout r) (stepped (preloaded r) (counted r));
-  preload = r.preload;
-  control = cond (falls r) (disabled r.control) r.control;
+  control = if falls r then disabled r.control else r.control;
   due = r.due - 1;
   active = r.active && not (falls r || drains r);
   requested = r.requested || ((settings r).interrupts && (ends r || drains r));
-  serving = r.serving;
 }
 
 -- a channel whose place refused: it loses its due words and comes to rest, all else stands
 abbrev pub faulted : Row → Row
-faulted r = record {
-  source = r.source;
-  destination = r.destination;
-  count = r.count;
-  preload = r.preload;
-  control = disabled r.control;
-  due = 0;
-  active = false;
-  requested = r.requested;
-  serving = r.serving;
-}
+faulted r = record r { control = disabled r.control; due = 0; active = false }
 
 -- the channel is remembered by its priority
 abbrev pub remember : State → ℕ → State
-remember s c = record { rows = s.rows; offsets = s.offsets; last = slice_set s.last (settings (row_at s.rows c)).priority c }
+remember s c = record s { last = slice_set s.last (settings (row_at s.rows c)).priority c }
 
 -- the state after channel c moved a word, before its block's end is raised
 abbrev pub moved : State → ℕ → State
@@ -67,7 +55,7 @@ moved s c = change (remember s c) c (advanced s.offsets)
 
 -- a block's end raises source 4 + c, over the channels as they now are
 abbrev pub after_move : State → ℕ → State
-after_move s c = cond (ends (row_at s.rows c)) (raised (4 + c) (moved s c)) (moved s c)
+after_move s c = if ends (row_at s.rows c) then raised (4 + c) (moved s c) else moved s c
 
 abbrev pub move_masks : State → ℕ → Masks
-move_masks s c = cond (ends (row_at s.rows c)) (masks_of (4 + c) (moved s c).rows) no_masks
+move_masks s c = if ends (row_at s.rows c) then masks_of (4 + c) (moved s c).rows else no_masks
