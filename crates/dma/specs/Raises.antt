@@ -26,23 +26,13 @@ abbrev pub masks_of : ℕ → List Row → Masks
 masks_of source rows = record { captured = mask (captures source) rows; missed = mask (misses source) rows }
 
 abbrev pub with_due : Row → ℕ → Row
-with_due r words = record {
-  source = r.source;
-  destination = r.destination;
-  count = r.count;
-  preload = r.preload;
-  control = r.control;
-  due = words;
-  active = r.active;
-  requested = r.requested;
-  serving = r.serving;
-}
+with_due r words = record r { due = words }
 
 abbrev pub asked : ℕ → Row → Row
 asked source r = if captures source r then with_due r (made_due r) else r
 
 abbrev pub raised : ℕ → State → State
-raised source s = record { rows = map (asked source) s.rows; offsets = s.offsets; last = s.last }
+raised source s = record s { rows = map (asked source) s.rows }
 
 abbrev pub raise_answer : State → ℕ → Result Masks Refusal
 raise_answer s source = if no_such_source source then Err NoSuchSource else Ok (masks_of source s.rows)

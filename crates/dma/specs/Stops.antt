@@ -6,20 +6,10 @@ use Rattle.dma.specs.State.{State}
 
 -- every due word is lost; a draining channel is done, without an interrupt; all else stands
 abbrev pub halted : Row → Row
-halted r = record {
-  source = r.source;
-  destination = r.destination;
-  count = r.count;
-  preload = r.preload;
-  control = r.control;
-  due = 0;
-  active = r.active && (settings r).enabled;
-  requested = r.requested;
-  serving = r.serving;
-}
+halted r = record r { due = 0; active = r.active && (settings r).enabled }
 
 abbrev pub after_stop : State → State
-after_stop s = record { rows = map halted s.rows; offsets = s.offsets; last = s.last }
+after_stop s = record s { rows = map halted s.rows }
 
 -- how many due words a stop loses
 abbrev pub lost : State → ℕ

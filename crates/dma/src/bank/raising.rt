@@ -1,8 +1,8 @@
 // Requests of a source, and stopping: what goes over all six channels.
-ghost use Rattle.std.specs.Prelude.{◌≡◌, false, map, slice_index_or};
-ghost use Rattle.dma.specs.Raises.{mask_of, masks_of, asked, no_such_source, raise_answer, after_raise};
+ghost use Rattle.std.specs.Prelude.{◌≡◌, false, slice_index_or};
+ghost use Rattle.dma.specs.Raises.{mask_of, masks_of, no_such_source, raise_answer, after_raise};
 ghost use Rattle.dma.specs.Banks.{state_of};
-ghost use Rattle.dma.specs.Stops.{halted, lost, after_stop};
+ghost use Rattle.dma.specs.Stops.{lost, after_stop};
 
 use crate::bank::Bank;
 use crate::masks::Masks;
@@ -29,7 +29,7 @@ pub fn masks(rows: &[Row; 6], source: u8) -> Masks
     }
 }
 
-// Whether no device can raise the source: 4 to 9 are the block ends, and there is none above 31.
+// Whether no device can raise the source: 4 to 9 are the block ends, and there is none above 31. It is a test, as the contract of `raise` has it.
 fn no_such_source(source: u8) -> bool
     ensures value { result ≡ no_such_source source }
 {
