@@ -2,6 +2,7 @@
 use Rattle.std.proofs.Common.{arith, ◌≡◌, ℕ, Bool, true, false, cond, eqb, List, map, length, get_or, set, Some, None, Option, sym, refl, ap, ◌∙◌, subst}
 use Rattle.std.proofs.lemmas.List.{length-map, length-set}
 use Rattle.std.proofs.lemmas.Grind.{common_steps}
+use Rattle.std.proofs.lemmas.Bool.{cond_both}
 use Rattle.memory.specs.declared.refusal.Refusal.{Refusal}
 use Rattle.registers.specs.Control.{enable}
 use Rattle.registers.specs.declared.register.Register.{Register}
@@ -9,7 +10,7 @@ use Rattle.registers.specs.declared.register.Register.TheVariants.{Dsr, Ddr, Dco
 use Rattle.dma.specs.declared.row.Row.{Row}
 use Rattle.dma.specs.declared.service.Service.{Service}
 use Rattle.dma.specs.Channels.{settings, by_words, captures}
-use Rattle.dma.specs.Raises.{no_such_source, asked, after_raise, raised}
+use Rattle.dma.specs.Raises.{no_such_source, asked, after_raise}
 use Rattle.dma.specs.Refusing.{unless}
 use Rattle.dma.specs.Sets.{after_control, switched_off, with_control, set_refusal, set_state, after_set}
 use Rattle.dma.specs.State.{State, row_at}
@@ -21,7 +22,7 @@ pub record SameServices (rows after : List Row) : Type 0 where
   pub count : length after ≡ length rows
   pub serving : (k : ℕ) → (row_at after k).serving ≡ (row_at rows k).serving
 
-pub unchanged : (rows : List Row) → SameServices rows rows
+unchanged : (rows : List Row) → SameServices rows rows
 unchanged rows = record { count = refl; serving = λ k. refl }
 
 row_replaced : (rows : List Row) (c : ℕ) (r : Row) → r.serving ≡ (row_at rows c).serving → SameServices rows (set rows c r)
@@ -58,14 +59,11 @@ unless_serves (Some refusal) s t h = unchanged s.rows
 pub set_serves : (s : State) (register : Register) (value : ℕ) → SameServices s.rows (after_set s register value).rows
 set_serves s register value = unless_serves (set_refusal s register value) s (set_state s register value) (set_state_serves s register value)
 
-cond_serves : (b : Bool) (s t : State) → SameServices s.rows t.rows → SameServices s.rows (cond b s t).rows
-cond_serves true s t h = unchanged s.rows
-cond_serves false s t h = h
-
 pub raise_serves : (s : State) (source : ℕ) → SameServices s.rows (after_raise s source).rows
 raise_serves s source =
-    cond_serves (no_such_source source) s (raised source s)
-    (rows_mapped s.rows (asked source) (λ r. either_row (captures source r) _ _ r refl refl))
+    cond_both (no_such_source source) _ _ (λ (t : State). SameServices s.rows t.rows)
+    (λ _. unchanged s.rows)
+    (λ _. rows_mapped s.rows (asked source) (λ r. either_row (captures source r) _ _ r refl refl))
 
 pub stop_serves : (s : State) → SameServices s.rows (after_stop s).rows
 stop_serves s = rows_mapped s.rows halted (λ r. refl)

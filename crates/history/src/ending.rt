@@ -18,8 +18,7 @@ impl Awake {
     fn end(self) {
         let mut device = self;
         for channel in 0..6u8 {
-            let (next, _) = device.finish(channel);
-            device = next;
+            (device, _) = device.finish(channel);
         }
         all_absent(device.into_services());
     }
