@@ -1,5 +1,5 @@
 mod Texts
-mod Words
+pub mod Words
 mod Numbers
 mod Sequences
 mod Places

@@ -10,30 +10,16 @@ use Rattle.forms.specs.Spelling.{spelled_word, WordFits}
 use Rattle.forms.specs.Scanning.{bind, hex_digit_of, hex_value, word_of}
 use Rattle.forms.proofs.Texts.{bound, guarded_not, same_found}
 
--- a digit more makes a number of i digits one of i + 1
-pub one_digit_more : (w d i : ℕ) → w < 16 ^ i → d < 16 → w * 16 + d < 16 ^ suc i
-one_digit_more w d i h e = rw pow-suc (omega arith)
-
 -- fewer than six digits leave room for one more
-pub room_for_a_digit : (w i : ℕ) → w < 16 ^ i → i < 6 → w < 2 ^ 20
-room_for_a_digit w i h e =
+pub room : (i : ℕ) → i < 6 → 16 ^ i ≤ 2 ^ 20
+room i h =
     let few : i ≤ 5 = omega arith in
     let below : 16 ^ i ≤ 16 ^ 5 = pow-le-pow_right (omega arith) few in
     omega arith
 
--- a turn: the digits from i on give, after w, the value of all
-pub hex_value_turn : (w d digit i : ℕ) (ds : List ℕ) → hex_value w (drop i ds) ≡ hex_value 0 ds → w < 16 ^ i → i < length ds → d ≡ digit → Some digit ≡ hex_digit_of (get_or ds i 0) → digit < 16 → (hex_value (w * 16 + d) (drop (i + 1) ds) ≡ hex_value 0 ds) × (w * 16 + d < 16 ^ (i + 1))
-hex_value_turn w d digit i ds so fits h is e below = (
-  let step : hex_value (w * 16 + digit) (drop (i + 1) ds) ≡ hex_value w (drop i ds) = rw (drop_more ds i 0 h, ← e) in
-      rw is (step ∙ so),
-  rw (add-one i) (one_digit_more w d i fits (omega arith)),
-)
-
-pub hex_value_stop : (w i : ℕ) (ds : List ℕ) → i < length ds → None ≡ hex_digit_of (get_or ds i 0) → None ≡ hex_value w (drop i ds)
-hex_value_stop w i ds h e = rw (drop_more ds i 0 h, ← e)
-
-pub hex_value_all : (w i : ℕ) (ds : List ℕ) → length ds ≤ i → Some w ≡ hex_value w (drop i ds)
-hex_value_all w i ds h = rw (drop_all i ds h)
+-- a digit more makes a number of i digits one of i + 1
+pub one_digit_more : (w d i : ℕ) → w < 16 ^ i → d < 16 → w * 16 + d < 16 ^ suc i
+one_digit_more w d i h e = rw pow-suc (omega arith)
 
 hex_digit_sound : (c d : ℕ) → hex_digit_of c ≡ Some d → (d < 16) × (c ≡ digit_glyph true d)
 hex_digit_sound c d e = grind (arith, nat_tests)

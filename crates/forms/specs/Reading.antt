@@ -1,5 +1,5 @@
 -- Which form a line is read as.
-use Rattle.std.specs.Prelude.{ℕ, suc, Bool, true, cond, ◌&&◌, List, [], ◌∷◌, length, take, drop, Some, None, codes, Option, ◌==◌, nat_lt, slice_index}
+use Rattle.std.specs.Prelude.{ℕ, suc, Bool, true, if◌then◌else◌, ◌&&◌, List, [], ◌∷◌, length, take, drop, Some, None, codes, Option, ◌==◌, nat_lt, slice_index}
 use Rattle.memory.specs.declared.place.Place.{Place}
 use Rattle.memory.specs.declared.place.Space.{Space}
 use Rattle.memory.specs.declared.place.Space.TheVariants.{X, Y, P}
@@ -11,7 +11,7 @@ use Rattle.forms.specs.Scanning.{bind, skipped, pair_of, closed_of, Way, first_w
 
 -- the space of a letter: x, y or p
 abbrev pub lettered : ℕ → Option Space
-lettered c = cond (c == 120) (Some X) (cond (c == 121) (Some Y) (cond (c == 112) (Some P) None))
+lettered c = if c == 120 then Some X else (if c == 121 then Some Y else (if c == 112 then Some P else None))
 
 -- the letter of a space
 abbrev pub space_of : List ℕ → Option (Space × List ℕ)
@@ -39,7 +39,7 @@ pub record Name : Type 0 where
 -- the register of the first of the names that s is
 abbrev pub named : List Name → List ℕ → ℕ → Option Register
 named [] s n = None
-named (name ∷ names) s n = cond (reads s name.text 0) (Some (name.means n)) (named names s n)
+named (name ∷ names) s n = if reads s name.text 0 then Some (name.means n) else named names s n
 
 -- the registers that have a number
 abbrev pub names : List Name
@@ -54,10 +54,9 @@ names =
 -- a name of three letters, and a number
 abbrev pub numbered_of : List ℕ → Option (Register × List ℕ)
 numbered_of s =
-    cond (nat_lt (length s) 3) None
-    (bind (skipped (codes " ") (drop 3 s)) (λ t.
+    if nat_lt (length s) 3 then None else bind (skipped (codes " ") (drop 3 s)) (λ t.
     bind (number_of t) (λ n.
-    bind (named names (take 3 s) n.0) (λ r. Some (r, n.1)))))
+    bind (named names (take 3 s) n.0) (λ r. Some (r, n.1))))
 
 -- the register without a number, and those with one
 abbrev pub registers : List (Way Register)

@@ -1,5 +1,5 @@
 -- What is read at the front of a line: a fixed text, a word, a number. Each reader gives what it found and the rest of the line.
-use Rattle.std.specs.Prelude.{ℕ, zero, suc, ◌+◌, ◌-◌, ◌*◌, Bool, cond, ◌&&◌, List, [], ◌∷◌, length, take, drop, Some, None, codes, Option, ◌==◌, nat_le, nat_lt}
+use Rattle.std.specs.Prelude.{ℕ, zero, suc, ◌+◌, ◌-◌, ◌*◌, Bool, if◌then◌else◌, ◌&&◌, List, [], ◌∷◌, length, take, drop, Some, None, codes, Option, ◌==◌, nat_le, nat_lt}
 use Rattle.std.specs.Borrow.{Bor}
 
 -- what a reader found, with the bytes of the rest in place of the reference to them
@@ -16,7 +16,7 @@ bind (Some x) k = k x
 unfoldable pub skipped : List ℕ → List ℕ → Option (List ℕ)
 skipped [] s = Some s
 skipped (t ∷ ts) [] = None
-skipped (t ∷ ts) (c ∷ cs) = cond (t == c) (skipped ts cs) None
+skipped (t ∷ ts) (c ∷ cs) = if t == c then skipped ts cs else None
 
 -- two readings, one after the other; `make` says what they stand for together
 abbrev pub pair_of : {A B C : Type 0} → (A → B → C) → (List ℕ → Option (A × List ℕ)) → (List ℕ → Option (B × List ℕ)) → List ℕ → Option (C × List ℕ)
@@ -47,11 +47,11 @@ between low high c = nat_le low c && nat_le c high
 
 -- the value of a decimal digit
 abbrev pub decimal_digit_of : ℕ → Option ℕ
-decimal_digit_of c = cond (between 48 57 c) (Some (c - 48)) None
+decimal_digit_of c = if between 48 57 c then Some (c - 48) else None
 
 -- the value of a hexadecimal digit: 0 to 9 or A to F
 abbrev pub hex_digit_of : ℕ → Option ℕ
-hex_digit_of c = cond (between 48 57 c) (Some (c - 48)) (cond (between 65 70 c) (Some (c - 55)) None)
+hex_digit_of c = if between 48 57 c then Some (c - 48) else (if between 65 70 c then Some (c - 55) else None)
 
 -- the value of hexadecimal digits after those that made v
 abbrev pub hex_value : ℕ → List ℕ → Option ℕ
@@ -60,7 +60,7 @@ hex_value v (c ∷ s) = bind (hex_digit_of c) (λ d. hex_value (v * 16 + d) s)
 
 -- six hexadecimal digits
 abbrev pub word_of : List ℕ → Option (ℕ × List ℕ)
-word_of s = cond (nat_lt (length s) 6) None (bind (hex_value 0 (take 6 s)) (λ w. Some (w, drop 6 s)))
+word_of s = if nat_lt (length s) 6 then None else bind (hex_value 0 (take 6 s)) (λ w. Some (w, drop 6 s))
 
 -- a word at the end of its list: after a space, and before the parenthesis that closes the list
 abbrev pub last_word_of : List ℕ → Option (ℕ × List ℕ)
@@ -68,12 +68,12 @@ last_word_of s = bind (skipped (codes " ") s) (closed_of (λ (w : ℕ). w) word_
 
 -- one more decimal digit, where the number stays below 256
 abbrev pub with_digit : ℕ → ℕ → Option ℕ
-with_digit v d = cond (nat_lt (v * 10 + d) 256) (Some (v * 10 + d)) None
+with_digit v d = if nat_lt (v * 10 + d) 256 then Some (v * 10 + d) else None
 
 -- decimal digits after those that made v, and the parenthesis that closes them
 abbrev pub more_digits_of : ℕ → List ℕ → Option (ℕ × List ℕ)
 more_digits_of v [] = None
-more_digits_of v (c ∷ s) = cond (c == 41) (Some (v, s)) (bind (decimal_digit_of c) (λ d. bind (with_digit v d) (λ w. more_digits_of w s)))
+more_digits_of v (c ∷ s) = if c == 41 then Some (v, s) else bind (decimal_digit_of c) (λ d. bind (with_digit v d) (λ w. more_digits_of w s))
 
 -- what follows the first digit of a number: after 0 only the parenthesis, so that no number has a leading zero
 abbrev pub number_from : ℕ → List ℕ → Option (ℕ × List ℕ)

@@ -1,8 +1,8 @@
 // Reading one line of a script into a form.
-ghost use Rattle.std.specs.Prelude.{◌≡◌};
+ghost use Rattle.std.specs.Prelude.{◌≡◌, codes, MatchOption, IsSomeAnd};
 ghost use Rattle.forms.specs.declared.form.Form.TheVariants.{Raise, Serve};
 ghost use Rattle.forms.specs.Reading.{form_of, forms, bare_forms, space_of, place_of, named, names, register_of, store_of, load_of, set_of, get_of, number_as};
-ghost use Rattle.forms.specs.Scanning.{seen, first_way};
+ghost use Rattle.forms.specs.Scanning.{seen, first_way, bind, skipped, last_word_of};
 ghost use Rattle.forms.specs.Spelling.{Exact};
 
 use crate::form::Form;
@@ -58,54 +58,71 @@ fn take_register(s: &[u8]) -> Option<(Register, &[u8])>
     Some((numbered(name, number)?, s))
 }
 
+// What was read, and a word after it, as the form that they make.
+fn with_word<T: Copy, F: FnOnce(T, u32) -> Form>(
+    read: Option<(T, &[u8])>,
+    form: F,
+) -> Option<(Form, &[u8])>
+    requires { F.IsAlwaysCallable form }
+    ensures value { MatchOption (seen read.entry) (result ≡ None) (λ a. MatchOption (last_word_of a.1) (result ≡ None) (λ w. IsSomeAnd result (λ p. F.post form a.0 w.0 p.0 × (p.1.now ≡ w.1)))) }
+{
+    let (value, s) = read?;
+    let (word, s) = take_last_word(s)?;
+    Some((form(value, word), s))
+}
+
+// What was read, and the parenthesis that closes it, as the form that it makes.
+fn closed<T: Copy, F: FnOnce(T) -> Form>(
+    read: Option<(T, &[u8])>,
+    form: F,
+) -> Option<(Form, &[u8])>
+    requires { F.IsAlwaysCallable form }
+    ensures value { MatchOption (seen read.entry) (result ≡ None) (λ a. MatchOption (skipped (codes ")") a.1) (result ≡ None) (λ rest. IsSomeAnd result (λ p. F.post form a.0 p.0 × (p.1.now ≡ rest)))) }
+{
+    let (value, s) = read?;
+    Some((form(value), skip(s, b")")?))
+}
+
 // What follows `(store `.
 fn take_store(s: &[u8]) -> Option<(Form, &[u8])>
     ensures value { seen result ≡ store_of s.now }
 {
-    let (place, s) = take_place(s)?;
-    let (word, s) = take_last_word(s)?;
-    Some((Form::Store(place, word), s))
+    with_word(take_place(s), Form::Store)
 }
 
 // What follows `(load `.
 fn take_load(s: &[u8]) -> Option<(Form, &[u8])>
     ensures value { seen result ≡ load_of s.now }
 {
-    let (place, s) = take_place(s)?;
-    Some((Form::Load(place), skip(s, b")")?))
+    closed(take_place(s), Form::Load)
 }
 
 // What follows `(set `.
 fn take_set(s: &[u8]) -> Option<(Form, &[u8])>
     ensures value { seen result ≡ set_of s.now }
 {
-    let (register, s) = take_register(s)?;
-    let (word, s) = take_last_word(s)?;
-    Some((Form::Set(register, word), s))
+    with_word(take_register(s), Form::Set)
 }
 
 // What follows `(get `.
 fn take_get(s: &[u8]) -> Option<(Form, &[u8])>
     ensures value { seen result ≡ get_of s.now }
 {
-    let (register, s) = take_register(s)?;
-    Some((Form::Get(register), skip(s, b")")?))
+    closed(take_register(s), Form::Get)
 }
 
 // What follows `(raise `.
 fn take_raise(s: &[u8]) -> Option<(Form, &[u8])>
     ensures value { seen result ≡ number_as Raise s.now }
 {
-    let (source, s) = take_number(s)?;
-    Some((Form::Raise(source), s))
+    take_number(s).map(|(source, s)| (Form::Raise(source), s))
 }
 
 // What follows `(serve `.
 fn take_serve(s: &[u8]) -> Option<(Form, &[u8])>
     ensures value { seen result ≡ number_as Serve s.now }
 {
-    let (channel, s) = take_number(s)?;
-    Some((Form::Serve(channel), s))
+    take_number(s).map(|(channel, s)| (Form::Serve(channel), s))
 }
 
 // A form that is one word.

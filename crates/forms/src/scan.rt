@@ -10,6 +10,7 @@ pub fn skip<'a>(s: &'a [u8], text: &[u8]) -> Option<&'a [u8]>
     s.strip_prefix(text)
 }
 
+// No `to_digit`: what it gives has to be narrowed again.
 fn decimal_digit(c: u8) -> Option<u8>
     ensures value { result ≡ decimal_digit_of c }
     ensures below { IfSome result (λ d. d < 10) }
@@ -20,7 +21,7 @@ fn decimal_digit(c: u8) -> Option<u8>
     }
 }
 
-// Capital letters only.
+// Capital letters only: `to_digit` takes small ones too.
 fn hex_digit(c: u8) -> Option<u8>
     ensures value { result ≡ hex_digit_of c }
     ensures below { IfSome result (λ d. d < 16) }
@@ -33,12 +34,13 @@ fn hex_digit(c: u8) -> Option<u8>
 }
 
 // The value of six hexadecimal digits.
+#[tactic(auto, using(crate::proofs::Words::room))]
 fn hex_value(digits: &[u8; 6]) -> Option<u32>
     ensures value { result ≡ hex_value 0 digits.now }
 {
     let mut word = 0;
-    for digit in digits {
-        word = word * 16 + u32::from(hex_digit(*digit)?);
+    for digit in digits.iter().copied() {
+        word = word * 16 + u32::from(hex_digit(digit)?);
     }
     Some(word)
 }
