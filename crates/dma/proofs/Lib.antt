@@ -3,7 +3,6 @@ pub mod Contests
 pub mod ControlSets
 pub mod Listeners
 pub mod MaskBits
-pub mod Refusals
 pub mod SoundRows
 pub mod Tables
 pub mod Turns

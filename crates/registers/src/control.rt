@@ -118,26 +118,17 @@ impl TryFrom<u32> for TransferMode {
     }
 }
 
-// The update of a side by its code. The codes of three dimensions are reserved.
-fn flat_update(code: u32) -> Result<Update, Refusal>
-    ensures value { Gives (update_of false code) ReservedShape result }
+// The update of a side by its code. The codes of three dimensions are reserved unless the other side has three.
+fn update_of(beside: bool, code: u32) -> Result<Update, Refusal>
+    ensures value { Gives (update_of beside code) ReservedShape result }
 {
     match code {
         0..=3 => Ok(Update::TwoDimensional(code as u8)),
         4 => Ok(Update::Still),
         5 => Ok(Update::Onward),
+        6 if beside => Ok(Update::ThreeDimensional(0, 1)),
+        7 if beside => Ok(Update::ThreeDimensional(2, 3)),
         _ => Err(Refusal::ReservedShape),
-    }
-}
-
-// The same beside a side of three dimensions, where those codes mean something.
-fn cubic_update(code: u32) -> Result<Update, Refusal>
-    ensures value { Gives (update_of true code) ReservedShape result }
-{
-    match code {
-        6 => Ok(Update::ThreeDimensional(0, 1)),
-        7 => Ok(Update::ThreeDimensional(2, 3)),
-        _ => flat_update(code),
     }
 }
 
@@ -145,10 +136,9 @@ fn cubic_update(code: u32) -> Result<Update, Refusal>
 fn flat_layout(source: u32, destination: u32) -> Layout
     ensures value { result ≡ flat_layout source destination }
 {
-    if source > 3 && destination > 3 {
-        Layout::A
-    } else {
-        Layout::B
+    match source {
+        4.. if destination > 3 => Layout::A,
+        _ => Layout::B,
     }
 }
 
@@ -188,8 +178,8 @@ impl Shape {
         let from = field(0, 3, dam);
         let to = field(3, 3, dam);
         Ok(Shape {
-            source: flat_update(from)?,
-            destination: flat_update(to)?,
+            source: update_of(false, from)?,
+            destination: update_of(false, to)?,
             layout: flat_layout(from, to),
         })
     }
@@ -198,7 +188,7 @@ impl Shape {
     fn cubic(dam: u32) -> Result<Shape, Refusal>
         ensures value { Gives (cubic_shape dam) ReservedShape result }
     {
-        let other = cubic_update(field(3, 3, dam))?;
+        let other = update_of(true, field(3, 3, dam))?;
         let layout = cubic_layout(field(0, 2, dam))?;
         if field(2, 1, dam) == 0 {
             Ok(Shape {
