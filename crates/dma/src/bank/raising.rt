@@ -1,5 +1,6 @@
 // Requests of a source, and stopping: what goes over all six channels.
-ghost use Rattle.std.specs.Prelude.{◌≡◌, false, slice_index_or};
+ghost use Rattle.std.specs.Prelude.{◌≡◌, false, slice_index_or, Ok, Err, if◌then◌else◌};
+ghost use Rattle.memory.specs.declared.refusal.Refusal.TheVariants.{NoSuchSource};
 ghost use Rattle.dma.specs.Raises.{mask_of, masks_of, no_such_source, raise_answer, after_raise};
 ghost use Rattle.dma.specs.Banks.{state_of};
 ghost use Rattle.dma.specs.Stops.{lost, after_stop};
@@ -29,11 +30,14 @@ pub fn masks(rows: &[Row; 6], source: u8) -> Masks
     }
 }
 
-// Whether no device can raise the source: 4 to 9 are the block ends, and there is none above 31. It is a test, as the contract of `raise` has it.
-fn no_such_source(source: u8) -> bool
-    ensures value { result ≡ no_such_source source }
+// Refused where no device can raise the source: 4 to 9 are the block ends, and there is none above 31.
+fn can_be_raised(source: u8) -> Result<(), Refusal>
+    ensures value { result ≡ (if no_such_source source then Err NoSuchSource else Ok tt) }
 {
-    matches!(source, 4..=9 | 32..)
+    match source {
+        4..=9 | 32.. => Err(Refusal::NoSuchSource),
+        _ => Ok(()),
+    }
 }
 
 impl Bank {
@@ -41,9 +45,7 @@ impl Bank {
         ensures value { result ≡ raise_answer (state_of self.old) source }
         ensures after { state_of self.new ≡ after_raise (state_of self.old) source }
     {
-        if no_such_source(source) {
-            return Err(Refusal::NoSuchSource);
-        }
+        can_be_raised(source)?;
         let masks = masks(&self.rows, source);
         for row in &mut self.rows {
             row.ask(source);
