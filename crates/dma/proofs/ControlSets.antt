@@ -15,7 +15,7 @@ use Rattle.registers.proofs.Layouts.{nothing_moved_is_preload_word}
 use Rattle.dma.specs.declared.row.Row.{Row}
 use Rattle.dma.specs.Channels.{zero_settings, settings, layout, preloaded, counted, by_words, starts_by_enable, requested_words, made_due}
 use Rattle.dma.specs.Sets.{disabled, reshapes, at_rest_refusal, control_refusal, with_control, after_control, switched_on, switched_off, at_rest}
-use Rattle.dma.proofs.SoundRows.{Sound}
+use Rattle.dma.specs.Soundness.{Sound}
 
 -- the parts of a control word that decodes
 parts_decode : (w : ℕ) (m : Option TransferMode) (h : Option Shape) (p : Option Spaces) → is_some m ≡ true → is_some h ≡ true → is_some p ≡ true → is_some (set_up w m h p) ≡ true
@@ -24,24 +24,27 @@ parts_decode w (Some m) None p a b c = b
 parts_decode w (Some m) (Some h) None a b c = c
 parts_decode w (Some m) (Some h) (Some p) a b c = refl
 
-decoded_parts : (w : ℕ) (m : Option TransferMode) (h : Option Shape) (p : Option Spaces) → is_some (set_up w m h p) ≡ true → (is_some m ≡ true) × (is_some h ≡ true) × (is_some p ≡ true)
-decoded_parts w None h p e = (e, absurd (let z : ◌≡◌ {A = ℕ} 0 1 = cc in omega arith), absurd (let z : ◌≡◌ {A = ℕ} 0 1 = cc in omega arith))
-decoded_parts w (Some m) None p e = (refl, e, absurd (let z : ◌≡◌ {A = ℕ} 0 1 = cc in omega arith))
-decoded_parts w (Some m) (Some h) None e = (refl, refl, e)
-decoded_parts w (Some m) (Some h) (Some p) e = (refl, refl, refl)
+-- and what its settings say
+pub record Parts (w : ℕ) (m : Option TransferMode) (h : Option Shape) (p : Option Spaces) : Type 0 where
+  pub mode : is_some m ≡ true
+  pub shape : is_some h ≡ true
+  pub spaces : is_some p ≡ true
+  pub is_shape : Some (unwrap_or (set_up w m h p) zero_settings).shape ≡ h
+  pub enabled : (unwrap_or (set_up w m h p) zero_settings).enabled ≡ enable w
 
-shape_in : (w : ℕ) (m : Option TransferMode) (h : Option Shape) (p : Option Spaces) → is_some (set_up w m h p) ≡ true → Some (unwrap_or (set_up w m h p) zero_settings).shape ≡ h
-shape_in w None h p e = absurd (let z : ◌≡◌ {A = ℕ} 0 1 = cc in omega arith)
-shape_in w (Some m) None p e = absurd (let z : ◌≡◌ {A = ℕ} 0 1 = cc in omega arith)
-shape_in w (Some m) (Some h) None e = absurd (let z : ◌≡◌ {A = ℕ} 0 1 = cc in omega arith)
-shape_in w (Some m) (Some h) (Some p) e = refl
+parts : (w : ℕ) (m : Option TransferMode) (h : Option Shape) (p : Option Spaces) → is_some (set_up w m h p) ≡ true → Parts w m h p
+parts w None h p e = absurd (both_ways false refl e)
+parts w (Some m) None p e = absurd (both_ways false refl e)
+parts w (Some m) (Some h) None e = absurd (both_ways false refl e)
+parts w (Some m) (Some h) (Some p) e = record { mode = refl; shape = refl; spaces = refl; is_shape = refl; enabled = refl }
+
+pub decoded : (w : ℕ) → is_some (settings_of w) ≡ true → Parts w (mode_of (mode_number w)) (shape_of w) (spaces_of w)
+decoded w e = parts w (mode_of (mode_number w)) (shape_of w) (spaces_of w) e
 
 -- rows whose control words give one shape have one layout
 same_shape : (r q : Row) → is_some (settings_of r.control) ≡ true → is_some (settings_of q.control) ≡ true → shape_of r.control ≡ shape_of q.control → (settings r).shape ≡ (settings q).shape
 same_shape r q a b e =
-    let x = shape_in r.control (mode_of (mode_number r.control)) (shape_of r.control) (spaces_of r.control) a in
-    let y = shape_in q.control (mode_of (mode_number q.control)) (shape_of q.control) (spaces_of q.control) b in
-    let z = x ∙ e ∙ sym y in
+    let z = (decoded r.control a).is_shape ∙ e ∙ sym (decoded q.control b).is_shape in
     cc
 
 -- the shape is in the bits 4 to 10
@@ -77,11 +80,11 @@ module _ (w : ℕ) (fits : w < 2 ^ 24) where
 
   disabled_decodes : is_some (settings_of w) ≡ true → is_some (settings_of (disabled w)) ≡ true
   disabled_decodes h =
-      let p = decoded_parts w (mode_of (mode_number w)) (shape_of w) (spaces_of w) h in
+      let p = decoded w h in
       parts_decode (disabled w) _ _ _
-      (ap (λ n. is_some (mode_of n)) disabled_mode ∙ p.0)
-      (ap is_some disabled_shape ∙ p.1)
-      (ap is_some disabled_spaces ∙ p.2)
+      (ap (λ n. is_some (mode_of n)) disabled_mode ∙ p.mode)
+      (ap is_some disabled_shape ∙ p.shape)
+      (ap is_some disabled_spaces ∙ p.spaces)
 
 -- what the refusal of a control word leaves where it does not refuse
 not_refused : (b : Bool) (x : Refusal) (o : Option Refusal) → cond b (Some x) o ≡ None → (b ≡ false) × (o ≡ None)
@@ -99,17 +102,7 @@ while_off false t a o e off = not_refused a Busy o e
 
 -- a row with other words due, activity and interrupt
 changed : Row → ℕ → Bool → Bool → Row
-changed r d a q = record {
-  source = r.source;
-  destination = r.destination;
-  count = r.count;
-  preload = r.preload;
-  control = r.control;
-  due = d;
-  active = a;
-  requested = q;
-  serving = r.serving;
-}
+changed r d a q = record r { due = d; active = a; requested = q }
 
 -- a request makes no more due than is left of the block
 made_due_by : (m : TransferMode) (p f : Fields) → requested_words m p f ≤ words_left p f
@@ -186,18 +179,10 @@ module _ (r : Row) (w : ℕ) (s : Sound r) (fits : w < 2 ^ 24) where
   -- the new word is held, and the channel is active where it has to be
   settled : (d : ℕ) (a q : Bool) → Held → d ≤ words_left (preloaded n) (counted n) → (a ≡ false → d ≡ 0) → (enable w ≡ true → a ≡ true) → Sound (changed n d a q)
   unfolding n changed
-  settled d a q h due-fits rests on = record {
-    source = s.source;
-    destination = s.destination;
-    count = s.count;
-    preload = s.preload;
-    control = fits;
-    decodes = h.decodes;
-    counts = h.counts;
-    due = due-fits;
-    due_active = rests;
-    enabled_active = on;
-  }
+  settled d a q h due-fits rests on =
+      let decodes = h.decodes in
+      let counts = h.counts in
+      assumption
 
   -- the word leaves DE 0, or the channel is active
   off : enable w ≡ false → {a : Bool} → enable w ≡ true → a ≡ true
