@@ -1,5 +1,5 @@
 -- One row of the table is changed by a call that may be refused.
-use Rattle.std.proofs.Common.{◌≡◌, ℕ, ◌^◌, ◌<◌, ◌≤◌, Bool, true, false, cond, ◌||◌, List, map, set, Some, None, Option, sym, refl, ap, ◌∙◌, subst, zero-le, arith}
+use Rattle.std.proofs.Common.{◌≡◌, ℕ, ◌^◌, ◌<◌, ◌≤◌, Bool, true, false, if◌then◌else◌, ◌||◌, List, map, set, Some, None, Option, sym, refl, ap, ◌∙◌, subst, zero-le, arith}
 use Rattle.std.proofs.lemmas.List.{set-get_or}
 use Rattle.std.proofs.lemmas.Bool.{and_parts, and_from, both_ways, cond_both}
 use Rattle.memory.specs.declared.refusal.Refusal.{Refusal}
@@ -34,9 +34,9 @@ pub sound_unless : (o : Option Refusal) (r n q : Row) → q ≡ unless o r n →
 sound_unless None r n q e s keeps = subst Sound (sym e) (keeps refl s)
 sound_unless (Some refusal) r n q e s keeps = subst Sound (sym e) s
 
-not_busy : (e a : Bool) → cond (e || a) (Some Busy) None ≡ None → a ≡ false
-not_busy true a h = absurd (let z : ◌≡◌ {A = ℕ} 0 1 = cc in omega arith)
-not_busy false true h = absurd (let z : ◌≡◌ {A = ℕ} 0 1 = cc in omega arith)
+not_busy : (e a : Bool) → (if e || a then Some Busy else None) ≡ None → a ≡ false
+not_busy true a h = cc
+not_busy false true h = cc
 not_busy false false h = refl
 
 pub row_set_keeps : (r : Row) (register : Register) (value : ℕ) → value < 2 ^ 24 → row_refusal r register value ≡ None → Sound r → Sound (row_set r register value)

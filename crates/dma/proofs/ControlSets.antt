@@ -1,5 +1,5 @@
 -- A set of the control word keeps a row sound.
-use Rattle.std.proofs.Common.{◌≡◌, ℕ, ◌/◌, ◌%◌, ◌^◌, ◌<◌, ◌≤◌, Bool, true, false, cond, not, ◌||◌, eqb, is_some, Some, None, Option, unwrap_or, sym, refl, ap, ◌∙◌, subst, ⊎_elim, zero-le, arith}
+use Rattle.std.proofs.Common.{◌≡◌, ℕ, ◌/◌, ◌%◌, ◌^◌, ◌<◌, ◌≤◌, Bool, true, false, if◌then◌else◌, not, ◌||◌, eqb, ◌==◌, is_some, Some, None, Option, unwrap_or, sym, refl, ap, ◌∙◌, subst, ⊎_elim, zero-le, arith}
 use Rattle.std.proofs.lemmas.Bool.{eqb-true, not-false, and_cases, or_cases, cases_Bool, both_ways, cond_both}
 use Rattle.memory.specs.declared.refusal.Refusal.{Refusal}
 use Rattle.memory.specs.declared.refusal.Refusal.TheVariants.{Busy}
@@ -8,7 +8,7 @@ use Rattle.registers.specs.declared.control.Spaces.{Spaces}
 use Rattle.registers.specs.declared.control.TransferMode.{TransferMode}
 use Rattle.registers.specs.declared.control.TransferMode.TheVariants.{Block, Word, Line, BlockByEnable, BlockKeepingEnable, WordKeepingEnable}
 use Rattle.registers.specs.declared.counter.Fields.{Fields}
-use Rattle.registers.specs.Control.{field, enable, mode_of, mode_number, flat_shape, cubic_shape, shape_of, space_of, spaced, spaces_of, set_up, settings_of}
+use Rattle.registers.specs.Control.{field, enable, mode_of, mode_number, flat_shape, cubic_shape, shape_of, spaces_of, set_up, settings_of}
 use Rattle.registers.specs.Counter.{cut, position, words_left, Within}
 use Rattle.registers.proofs.Counting.{within_itself, some_word_left}
 use Rattle.registers.proofs.Layouts.{nothing_moved_is_preload_word}
@@ -33,9 +33,9 @@ pub record Parts (w : ℕ) (m : Option TransferMode) (h : Option Shape) (p : Opt
   pub enabled : (unwrap_or (set_up w m h p) zero_settings).enabled ≡ enable w
 
 parts : (w : ℕ) (m : Option TransferMode) (h : Option Shape) (p : Option Spaces) → is_some (set_up w m h p) ≡ true → Parts w m h p
-parts w None h p e = absurd (both_ways false refl e)
-parts w (Some m) None p e = absurd (both_ways false refl e)
-parts w (Some m) (Some h) None e = absurd (both_ways false refl e)
+parts w None h p e = absurd (cc)
+parts w (Some m) None p e = absurd (cc)
+parts w (Some m) (Some h) None e = absurd (cc)
 parts w (Some m) (Some h) (Some p) e = record { mode = refl; shape = refl; spaces = refl; is_shape = refl; enabled = refl }
 
 pub decoded : (w : ℕ) → is_some (settings_of w) ≡ true → Parts w (mode_of (mode_number w)) (shape_of w) (spaces_of w)
@@ -49,23 +49,20 @@ same_shape r q a b e =
 
 -- the shape is in the bits 4 to 10
 shape_by : ℕ → Option Shape
-shape_by n = cond (eqb (n / 64) 1) (cubic_shape (n % 64)) (flat_shape (n % 64))
+shape_by n = if n / 64 == 1 then cubic_shape (n % 64) else flat_shape (n % 64)
 
 shape_in_its_bits : (w : ℕ) → shape_of w ≡ shape_by (field 4 7 w)
 unfolding shape_by
 shape_in_its_bits w =
     let flag : field 10 1 w ≡ field 4 7 w / 64 = omega arith in
     let dam : field 4 6 w ≡ field 4 7 w % 64 = omega arith in
-    (λ i. cond (eqb (flag i) 1) (cubic_shape (dam i)) (flat_shape (dam i)))
+    rw (flag, dam)
 
 kept_shape : (v w : ℕ) → field 4 7 v ≡ field 4 7 w → shape_of v ≡ shape_of w
 kept_shape v w e = shape_in_its_bits v ∙ ap shape_by e ∙ sym (shape_in_its_bits w)
 
 -- clearing DE changes no other bit
 module _ (w : ℕ) (fits : w < 2 ^ 24) where
-  disabled_is_off : enable (disabled w) ≡ false
-  disabled_is_off = let e : field 23 1 (disabled w) ≡ 0 = omega arith in ap (λ n. eqb n 1) e
-
   disabled_shape : shape_of (disabled w) ≡ shape_of w
   disabled_shape = kept_shape (disabled w) w (omega arith)
 
@@ -76,7 +73,7 @@ module _ (w : ℕ) (fits : w < 2 ^ 24) where
   disabled_spaces =
       let s : field 0 2 (disabled w) ≡ field 0 2 w = omega arith in
       let d : field 2 2 (disabled w) ≡ field 2 2 w = omega arith in
-      (λ i. spaced (space_of (s i)) (space_of (d i)))
+      rw (s, d)
 
   disabled_decodes : is_some (settings_of w) ≡ true → is_some (settings_of (disabled w)) ≡ true
   disabled_decodes h =
@@ -87,17 +84,17 @@ module _ (w : ℕ) (fits : w < 2 ^ 24) where
       (ap is_some disabled_spaces ∙ p.spaces)
 
 -- what the refusal of a control word leaves where it does not refuse
-not_refused : (b : Bool) (x : Refusal) (o : Option Refusal) → cond b (Some x) o ≡ None → (b ≡ false) × (o ≡ None)
-not_refused true x o e = absurd (let z : ◌≡◌ {A = ℕ} 0 1 = cc in omega arith)
+not_refused : (b : Bool) (x : Refusal) (o : Option Refusal) → (if b then Some x else o) ≡ None → (b ≡ false) × (o ≡ None)
+not_refused true x o e = absurd (cc)
 not_refused false x o e = (refl, e)
 
-while_on : (b t a : Bool) (o : Option Refusal) → cond b (cond t None (Some Busy)) (cond a (Some Busy) o) ≡ None → b ≡ true → t ≡ true
+while_on : (b t a : Bool) (o : Option Refusal) → (if b then (if t then None else Some Busy) else if a then Some Busy else o) ≡ None → b ≡ true → t ≡ true
 while_on true true a o e on = refl
-while_on true false a o e on = absurd (let z : ◌≡◌ {A = ℕ} 0 1 = cc in omega arith)
-while_on false t a o e on = absurd (let z : ◌≡◌ {A = ℕ} 0 1 = cc in omega arith)
+while_on true false a o e on = cc
+while_on false t a o e on = cc
 
-while_off : (b t a : Bool) (o : Option Refusal) → cond b (cond t None (Some Busy)) (cond a (Some Busy) o) ≡ None → b ≡ false → (a ≡ false) × (o ≡ None)
-while_off true t a o e off = absurd (let z : ◌≡◌ {A = ℕ} 0 1 = cc in omega arith)
+while_off : (b t a : Bool) (o : Option Refusal) → (if b then (if t then None else Some Busy) else if a then Some Busy else o) ≡ None → b ≡ false → (a ≡ false) × (o ≡ None)
+while_off true t a o e off = absurd (cc)
 while_off false t a o e off = not_refused a Busy o e
 
 -- a row with other words due, activity and interrupt
