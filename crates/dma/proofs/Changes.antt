@@ -1,5 +1,5 @@
 -- One row of the table is changed by a call that may be refused.
-use Rattle.std.proofs.Common.{◌≡◌, ℕ, ◌^◌, ◌<◌, ◌≤◌, Bool, true, false, cond, ◌||◌, List, map, length, sum_by, set, is_some, Some, None, Option, unwrap_or, sym, refl, ap, ◌∙◌, subst, zero-le, arith}
+use Rattle.std.proofs.Common.{◌≡◌, ℕ, ◌^◌, ◌<◌, ◌≤◌, Bool, true, false, if◌then◌else◌, cond, ◌||◌, List, map, length, sum_by, set, Some, None, Option, sym, refl, ap, ◌∙◌, subst, zero-le, arith}
 use Rattle.std.proofs.lemmas.List.{set-get_or}
 use Rattle.std.proofs.lemmas.Bool.{and_parts, and_from, both_ways, cond_both, le-ltb}
 use Rattle.std.proofs.lemmas.List.Elements.{All-from_get_or}
@@ -9,36 +9,30 @@ use Rattle.memory.specs.declared.refusal.Refusal.TheVariants.{NoSuchRegister, Va
 use Rattle.registers.specs.declared.register.Register.{Register}
 use Rattle.registers.specs.declared.register.Register.TheVariants.{Dsr, Ddr, Dco, Dcr, Dor, Dstr}
 use Rattle.dma.specs.declared.row.Row.{Row}
-use Rattle.registers.specs.declared.control.Shape.{Shape}
-use Rattle.registers.specs.declared.control.Spaces.{Spaces}
-use Rattle.registers.specs.declared.control.TransferMode.{TransferMode}
-use Rattle.registers.specs.Control.{enable, mode_of, mode_number, shape_of, spaces_of, set_up}
+use Rattle.registers.specs.Control.{enable}
+use Rattle.registers.specs.Counter.{words_left}
 use Rattle.registers.proofs.Layouts.{cut_fits, words_left_fit}
-use Rattle.dma.specs.Channels.{zero_settings, settings, layout, preloaded, counted, listens, captures}
+use Rattle.dma.specs.Channels.{settings, layout, preloaded, counted, listens, captures, made_due}
 use Rattle.dma.specs.Raises.{asked}
 use Rattle.dma.specs.Stops.{halted}
 use Rattle.dma.specs.Refusing.{unless}
 use Rattle.registers.specs.Names.{unknown, channel_of}
 use Rattle.dma.specs.Sets.{row_refusal, row_set, with_row, change, shared_refusal, shared_set, set_refusal, after_set}
 use Rattle.dma.specs.Services.{with_service}
-use Rattle.dma.specs.Soundness.{sound}
+use Rattle.dma.specs.Soundness.{Sound}
 use Rattle.dma.specs.State.{State, reset_row, row_at}
-use Rattle.dma.proofs.ControlSets.{made_due_fits, control_set}
+use Rattle.dma.proofs.ControlSets.{made_due_fits, decoded, control_set}
 use Rattle.dma.proofs.Tables.{all_of_set, all_of_map}
-use Rattle.dma.proofs.SoundRows.{Sound, opened, closed, source_set, destination_set, counter_set}
+use Rattle.dma.proofs.SoundRows.{source_set, destination_set, counter_set}
 
 pub row_changed : (s : State) (c : ℕ) (o : Option Refusal) (f : Row → Row) (r : Row) → r ≡ unless o (row_at s.rows c) (f (row_at s.rows c)) → with_row s c r ≡ unless o s (change s c f)
 row_changed s c None f r e = ap (with_row s c) e
 row_changed s c (Some refusal) f r e = ap (with_row s c) e ∙ (λ i. record { rows = set-get_or s.rows c reset_row i; offsets = s.offsets; last = s.last })
 
 -- a refused call keeps the row, an accepted one makes it f of itself
-kept_or : (P : Row → Type 0) (o : Option Refusal) (r n : Row) → P r → (o ≡ None → P n) → P (unless o r n)
-kept_or P None r n old new = new refl
-kept_or P (Some refusal) r n old new = old
-
-pub sound_unless : (o : Option Refusal) (r n q : Row) → q ≡ unless o r n → sound r ≡ true → (o ≡ None → Sound r → Sound n) → sound q ≡ true
-sound_unless o r n q e s keeps =
-    subst (λ x. sound x ≡ true) (sym e) (kept_or (λ x. sound x ≡ true) o r n s (λ none. closed n (keeps none (opened r s))))
+pub sound_unless : (o : Option Refusal) (r n q : Row) → q ≡ unless o r n → Sound r → (o ≡ None → Sound r → Sound n) → Sound q
+sound_unless None r n q e s keeps = subst Sound (sym e) (keeps refl s)
+sound_unless (Some refusal) r n q e s keeps = subst Sound (sym e) s
 
 -- a set of a channel's register, by the row that it leaves
 module _ (s : State) (register : Register) (value c : ℕ) (known : unknown register ≡ false) (fits : value ≤ 0xFFFFFF) (own : channel_of register ≡ Some c) where
@@ -53,9 +47,9 @@ module _ (s : State) (register : Register) (value c : ℕ) (known : unknown regi
       row_changed s c _ (λ r. row_set r register value) row e
       ∙ (λ i. unless (sym refused_as_the_row i) s (elim (sym own i) [ Some d ↦ change s d (λ r. row_set r register value) | None ↦ shared_set s register value ]))
 
-not_busy : (e a : Bool) → cond (e || a) (Some Busy) None ≡ None → a ≡ false
-not_busy true a h = absurd (let z : ◌≡◌ {A = ℕ} 0 1 = cc in omega arith)
-not_busy false true h = absurd (let z : ◌≡◌ {A = ℕ} 0 1 = cc in omega arith)
+not_busy : (e a : Bool) → (if e || a then Some Busy else None) ≡ None → a ≡ false
+not_busy true a h = cc
+not_busy false true h = cc
 not_busy false false h = refl
 
 pub row_set_keeps : (r : Row) (register : Register) (value : ℕ) → value < 2 ^ 24 → row_refusal r register value ≡ None → Sound r → Sound (row_set r register value)
@@ -68,32 +62,15 @@ row_set_keeps r Dstr value fits e s = s
 
 -- interrupts and services touch nothing that soundness speaks of
 pub service_keeps : (r : Row) (requested serving : Bool) → Sound r → Sound (with_service r requested serving)
-service_keeps r requested serving s = record {
-  source = s.source;
-  destination = s.destination;
-  count = s.count;
-  preload = s.preload;
-  control = s.control;
-  decodes = s.decodes;
-  counts = s.counts;
-  due = s.due;
-  due_active = s.due_active;
-  enabled_active = s.enabled_active;
-}
+service_keeps r requested serving s = assumption
 
 -- the table with one row changed is sound again
-pub sound_table : (rows : List Row) (c : ℕ) (o : Option Refusal) (f : Row → Row) (q : Row) → q ≡ unless o (row_at rows c) (f (row_at rows c)) → ((k : ℕ) → sound (row_at rows k) ≡ true) → (o ≡ None → Sound (row_at rows c) → Sound (f (row_at rows c))) → (k : ℕ) → sound (row_at (set rows c q) k) ≡ true
-sound_table rows c o f q e all keeps = all_of_set (λ x. sound x ≡ true) rows c q reset_row all (sound_unless o (row_at rows c) (f (row_at rows c)) q e (all c) keeps)
+pub sound_table : (rows : List Row) (c : ℕ) (o : Option Refusal) (f : Row → Row) (q : Row) → q ≡ unless o (row_at rows c) (f (row_at rows c)) → ((k : ℕ) → Sound (row_at rows k)) → (o ≡ None → Sound (row_at rows c) → Sound (f (row_at rows c))) → (k : ℕ) → Sound (row_at (set rows c q) k)
+sound_table rows c o f q e all keeps = all_of_set Sound rows c q reset_row all (sound_unless o (row_at rows c) (f (row_at rows c)) q e (all c) keeps)
 
 -- the settings say what the control word says of DE
-enabled_in : (w : ℕ) (m : Option TransferMode) (h : Option Shape) (p : Option Spaces) → is_some (set_up w m h p) ≡ true → (unwrap_or (set_up w m h p) zero_settings).enabled ≡ enable w
-enabled_in w None h p e = absurd (let z : ◌≡◌ {A = ℕ} 0 1 = cc in omega arith)
-enabled_in w (Some m) None p e = absurd (let z : ◌≡◌ {A = ℕ} 0 1 = cc in omega arith)
-enabled_in w (Some m) (Some h) None e = absurd (let z : ◌≡◌ {A = ℕ} 0 1 = cc in omega arith)
-enabled_in w (Some m) (Some h) (Some p) e = refl
-
 pub settings_enabled : (r : Row) → Sound r → (settings r).enabled ≡ enable r.control
-settings_enabled r s = enabled_in r.control (mode_of (mode_number r.control)) (shape_of r.control) (spaces_of r.control) s.decodes
+settings_enabled r s = (decoded r.control s.decodes).enabled
 
 pub asked_keeps : (source : ℕ) (r : Row) → Sound r → Sound (asked source r)
 asked_keeps source r s =
@@ -101,46 +78,27 @@ asked_keeps source r s =
     (λ takes.
     let on = (and_parts (settings r).enabled _ (and_parts (listens source r) _ takes).0).0 in
     let runs = s.enabled_active (sym (settings_enabled r s) ∙ on) in
-    record {
-      source = s.source;
-      destination = s.destination;
-      count = s.count;
-      preload = s.preload;
-      control = s.control;
-      decodes = s.decodes;
-      counts = s.counts;
-      due = made_due_fits r;
-      due_active = λ rests. absurd (both_ways _ rests runs);
-      enabled_active = s.enabled_active;
-    })
+    let due = made_due_fits r in
+    let due_active : r.active ≡ false → made_due r ≡ 0 = λ rests. absurd (both_ways _ rests runs) in
+    assumption)
     (λ _. s)
 
 pub halted_keeps : (r : Row) → Sound r → Sound (halted r)
-halted_keeps r s = record {
-  source = s.source;
-  destination = s.destination;
-  count = s.count;
-  preload = s.preload;
-  control = s.control;
-  decodes = s.decodes;
-  counts = s.counts;
-  due = zero-le;
-  due_active = λ _. refl;
-  enabled_active = λ on. and_from _ _ (s.enabled_active on) (settings_enabled r s ∙ on);
-}
+halted_keeps r s =
+    let due : (halted r).due ≤ words_left (preloaded r) (counted r) = zero-le in
+    let due_active : (halted r).active ≡ false → (halted r).due ≡ 0 = λ _. refl in
+    let enabled_active : enable r.control ≡ true → (halted r).active ≡ true = λ on. and_from _ _ (s.enabled_active on) (settings_enabled r s ∙ on) in
+    assumption
 
 -- a change of every row keeps the table sound
-pub sound_mapped : (rows : List Row) (f : Row → Row) (after : List Row) → after ≡ map f rows → ((k : ℕ) → sound (row_at rows k) ≡ true) → ((r : Row) → Sound r → Sound (f r)) → (k : ℕ) → sound (row_at after k) ≡ true
-sound_mapped rows f after is all keeps k =
-    ap (λ l. sound (row_at l k)) is ∙ all_of_map (λ r. sound r ≡ true) f rows reset_row all (λ r s. closed (f r) (keeps r (opened r s))) k
+pub sound_mapped : (rows : List Row) (f : Row → Row) (after : List Row) → after ≡ map f rows → ((k : ℕ) → Sound (row_at rows k)) → ((r : Row) → Sound r → Sound (f r)) → (k : ℕ) → Sound (row_at after k)
+sound_mapped rows f after is all keeps k = subst (λ l. Sound (row_at l k)) (sym is) (all_of_map Sound f rows reset_row all keeps k)
 
-pub due_bound : (r : Row) → sound r ≡ true → r.due ≤ 2 ^ 24
-due_bound r h =
-    let s = opened r h in
-    omega (arith, s.due, words_left_fit (layout r) (preloaded r) (counted r) (cut_fits (layout r) r.preload) (cut_fits (layout r) r.count))
+pub due_bound : (r : Row) → Sound r → r.due ≤ 2 ^ 24
+due_bound r s = omega (arith, s.due, words_left_fit (layout r) (preloaded r) (counted r) (cut_fits (layout r) r.preload) (cut_fits (layout r) r.count))
 
 -- the due words of six sound rows are a 32-bit number
-pub all_due_fit : (rows : List Row) → length rows ≡ 6 → ((k : ℕ) → sound (row_at rows k) ≡ true) → sum_by (λ (r : Row). r.due) rows < 2 ^ 32
+pub all_due_fit : (rows : List Row) → length rows ≡ 6 → ((k : ℕ) → Sound (row_at rows k)) → sum_by (λ (r : Row). r.due) rows < 2 ^ 32
 all_due_fit rows six all =
     let each = sum_by-le (λ (r : Row). r.due) (2 ^ 24) rows (All-from_get_or (λ r. r.due ≤ 2 ^ 24) rows reset_row (λ k h. due_bound (row_at rows k) (all k))) in
     omega arith

@@ -1,5 +1,5 @@
 -- A set of the control word keeps a row sound.
-use Rattle.std.proofs.Common.{◌≡◌, ℕ, ◌/◌, ◌%◌, ◌^◌, ◌<◌, ◌≤◌, Bool, true, false, cond, not, ◌||◌, eqb, is_some, Some, None, Option, unwrap_or, sym, refl, ap, ◌∙◌, subst, ⊎_elim, zero-le, arith}
+use Rattle.std.proofs.Common.{◌≡◌, ℕ, ◌/◌, ◌%◌, ◌^◌, ◌<◌, ◌≤◌, Bool, true, false, if◌then◌else◌, not, ◌||◌, eqb, ◌==◌, is_some, Some, None, Option, unwrap_or, sym, refl, ap, ◌∙◌, subst, ⊎_elim, zero-le, arith}
 use Rattle.std.proofs.lemmas.Bool.{eqb-true, not-false, and_cases, or_cases, cases_Bool, both_ways, cond_both}
 use Rattle.memory.specs.declared.refusal.Refusal.{Refusal}
 use Rattle.memory.specs.declared.refusal.Refusal.TheVariants.{Busy}
@@ -8,14 +8,14 @@ use Rattle.registers.specs.declared.control.Spaces.{Spaces}
 use Rattle.registers.specs.declared.control.TransferMode.{TransferMode}
 use Rattle.registers.specs.declared.control.TransferMode.TheVariants.{Block, Word, Line, BlockByEnable, BlockKeepingEnable, WordKeepingEnable}
 use Rattle.registers.specs.declared.counter.Fields.{Fields}
-use Rattle.registers.specs.Control.{field, enable, mode_of, mode_number, flat_shape, cubic_shape, shape_of, space_of, spaced, spaces_of, set_up, settings_of}
+use Rattle.registers.specs.Control.{field, enable, mode_of, mode_number, flat_shape, cubic_shape, shape_of, spaces_of, set_up, settings_of}
 use Rattle.registers.specs.Counter.{cut, position, words_left, Within}
 use Rattle.registers.proofs.Counting.{within_itself, some_word_left}
 use Rattle.registers.proofs.Layouts.{nothing_moved_is_preload_word}
 use Rattle.dma.specs.declared.row.Row.{Row}
 use Rattle.dma.specs.Channels.{zero_settings, settings, layout, preloaded, counted, by_words, starts_by_enable, requested_words, made_due}
 use Rattle.dma.specs.Sets.{disabled, reshapes, at_rest_refusal, control_refusal, with_control, after_control, switched_on, switched_off, at_rest}
-use Rattle.dma.proofs.SoundRows.{Sound}
+use Rattle.dma.specs.Soundness.{Sound}
 
 -- the parts of a control word that decodes
 parts_decode : (w : ℕ) (m : Option TransferMode) (h : Option Shape) (p : Option Spaces) → is_some m ≡ true → is_some h ≡ true → is_some p ≡ true → is_some (set_up w m h p) ≡ true
@@ -24,45 +24,45 @@ parts_decode w (Some m) None p a b c = b
 parts_decode w (Some m) (Some h) None a b c = c
 parts_decode w (Some m) (Some h) (Some p) a b c = refl
 
-decoded_parts : (w : ℕ) (m : Option TransferMode) (h : Option Shape) (p : Option Spaces) → is_some (set_up w m h p) ≡ true → (is_some m ≡ true) × (is_some h ≡ true) × (is_some p ≡ true)
-decoded_parts w None h p e = (e, absurd (let z : ◌≡◌ {A = ℕ} 0 1 = cc in omega arith), absurd (let z : ◌≡◌ {A = ℕ} 0 1 = cc in omega arith))
-decoded_parts w (Some m) None p e = (refl, e, absurd (let z : ◌≡◌ {A = ℕ} 0 1 = cc in omega arith))
-decoded_parts w (Some m) (Some h) None e = (refl, refl, e)
-decoded_parts w (Some m) (Some h) (Some p) e = (refl, refl, refl)
+-- and what its settings say
+pub record Parts (w : ℕ) (m : Option TransferMode) (h : Option Shape) (p : Option Spaces) : Type 0 where
+  pub mode : is_some m ≡ true
+  pub shape : is_some h ≡ true
+  pub spaces : is_some p ≡ true
+  pub is_shape : Some (unwrap_or (set_up w m h p) zero_settings).shape ≡ h
+  pub enabled : (unwrap_or (set_up w m h p) zero_settings).enabled ≡ enable w
 
-shape_in : (w : ℕ) (m : Option TransferMode) (h : Option Shape) (p : Option Spaces) → is_some (set_up w m h p) ≡ true → Some (unwrap_or (set_up w m h p) zero_settings).shape ≡ h
-shape_in w None h p e = absurd (let z : ◌≡◌ {A = ℕ} 0 1 = cc in omega arith)
-shape_in w (Some m) None p e = absurd (let z : ◌≡◌ {A = ℕ} 0 1 = cc in omega arith)
-shape_in w (Some m) (Some h) None e = absurd (let z : ◌≡◌ {A = ℕ} 0 1 = cc in omega arith)
-shape_in w (Some m) (Some h) (Some p) e = refl
+parts : (w : ℕ) (m : Option TransferMode) (h : Option Shape) (p : Option Spaces) → is_some (set_up w m h p) ≡ true → Parts w m h p
+parts w None h p e = absurd (cc)
+parts w (Some m) None p e = absurd (cc)
+parts w (Some m) (Some h) None e = absurd (cc)
+parts w (Some m) (Some h) (Some p) e = record { mode = refl; shape = refl; spaces = refl; is_shape = refl; enabled = refl }
+
+pub decoded : (w : ℕ) → is_some (settings_of w) ≡ true → Parts w (mode_of (mode_number w)) (shape_of w) (spaces_of w)
+decoded w e = parts w (mode_of (mode_number w)) (shape_of w) (spaces_of w) e
 
 -- rows whose control words give one shape have one layout
 same_shape : (r q : Row) → is_some (settings_of r.control) ≡ true → is_some (settings_of q.control) ≡ true → shape_of r.control ≡ shape_of q.control → (settings r).shape ≡ (settings q).shape
 same_shape r q a b e =
-    let x = shape_in r.control (mode_of (mode_number r.control)) (shape_of r.control) (spaces_of r.control) a in
-    let y = shape_in q.control (mode_of (mode_number q.control)) (shape_of q.control) (spaces_of q.control) b in
-    let z = x ∙ e ∙ sym y in
+    let z = (decoded r.control a).is_shape ∙ e ∙ sym (decoded q.control b).is_shape in
     cc
 
 -- the shape is in the bits 4 to 10
 shape_by : ℕ → Option Shape
-shape_by n = cond (eqb (n / 64) 1) (cubic_shape (n % 64)) (flat_shape (n % 64))
+shape_by n = if n / 64 == 1 then cubic_shape (n % 64) else flat_shape (n % 64)
 
 shape_in_its_bits : (w : ℕ) → shape_of w ≡ shape_by (field 4 7 w)
 unfolding shape_by
 shape_in_its_bits w =
     let flag : field 10 1 w ≡ field 4 7 w / 64 = omega arith in
     let dam : field 4 6 w ≡ field 4 7 w % 64 = omega arith in
-    (λ i. cond (eqb (flag i) 1) (cubic_shape (dam i)) (flat_shape (dam i)))
+    rw (flag, dam)
 
 kept_shape : (v w : ℕ) → field 4 7 v ≡ field 4 7 w → shape_of v ≡ shape_of w
 kept_shape v w e = shape_in_its_bits v ∙ ap shape_by e ∙ sym (shape_in_its_bits w)
 
 -- clearing DE changes no other bit
 module _ (w : ℕ) (fits : w < 2 ^ 24) where
-  disabled_is_off : enable (disabled w) ≡ false
-  disabled_is_off = let e : field 23 1 (disabled w) ≡ 0 = omega arith in ap (λ n. eqb n 1) e
-
   disabled_shape : shape_of (disabled w) ≡ shape_of w
   disabled_shape = kept_shape (disabled w) w (omega arith)
 
@@ -73,43 +73,33 @@ module _ (w : ℕ) (fits : w < 2 ^ 24) where
   disabled_spaces =
       let s : field 0 2 (disabled w) ≡ field 0 2 w = omega arith in
       let d : field 2 2 (disabled w) ≡ field 2 2 w = omega arith in
-      (λ i. spaced (space_of (s i)) (space_of (d i)))
+      rw (s, d)
 
   disabled_decodes : is_some (settings_of w) ≡ true → is_some (settings_of (disabled w)) ≡ true
   disabled_decodes h =
-      let p = decoded_parts w (mode_of (mode_number w)) (shape_of w) (spaces_of w) h in
+      let p = decoded w h in
       parts_decode (disabled w) _ _ _
-      (ap (λ n. is_some (mode_of n)) disabled_mode ∙ p.0)
-      (ap is_some disabled_shape ∙ p.1)
-      (ap is_some disabled_spaces ∙ p.2)
+      (ap (λ n. is_some (mode_of n)) disabled_mode ∙ p.mode)
+      (ap is_some disabled_shape ∙ p.shape)
+      (ap is_some disabled_spaces ∙ p.spaces)
 
 -- what the refusal of a control word leaves where it does not refuse
-not_refused : (b : Bool) (x : Refusal) (o : Option Refusal) → cond b (Some x) o ≡ None → (b ≡ false) × (o ≡ None)
-not_refused true x o e = absurd (let z : ◌≡◌ {A = ℕ} 0 1 = cc in omega arith)
+not_refused : (b : Bool) (x : Refusal) (o : Option Refusal) → (if b then Some x else o) ≡ None → (b ≡ false) × (o ≡ None)
+not_refused true x o e = absurd (cc)
 not_refused false x o e = (refl, e)
 
-while_on : (b t a : Bool) (o : Option Refusal) → cond b (cond t None (Some Busy)) (cond a (Some Busy) o) ≡ None → b ≡ true → t ≡ true
+while_on : (b t a : Bool) (o : Option Refusal) → (if b then (if t then None else Some Busy) else if a then Some Busy else o) ≡ None → b ≡ true → t ≡ true
 while_on true true a o e on = refl
-while_on true false a o e on = absurd (let z : ◌≡◌ {A = ℕ} 0 1 = cc in omega arith)
-while_on false t a o e on = absurd (let z : ◌≡◌ {A = ℕ} 0 1 = cc in omega arith)
+while_on true false a o e on = cc
+while_on false t a o e on = cc
 
-while_off : (b t a : Bool) (o : Option Refusal) → cond b (cond t None (Some Busy)) (cond a (Some Busy) o) ≡ None → b ≡ false → (a ≡ false) × (o ≡ None)
-while_off true t a o e off = absurd (let z : ◌≡◌ {A = ℕ} 0 1 = cc in omega arith)
+while_off : (b t a : Bool) (o : Option Refusal) → (if b then (if t then None else Some Busy) else if a then Some Busy else o) ≡ None → b ≡ false → (a ≡ false) × (o ≡ None)
+while_off true t a o e off = absurd (cc)
 while_off false t a o e off = not_refused a Busy o e
 
 -- a row with other words due, activity and interrupt
 changed : Row → ℕ → Bool → Bool → Row
-changed r d a q = record {
-  source = r.source;
-  destination = r.destination;
-  count = r.count;
-  preload = r.preload;
-  control = r.control;
-  due = d;
-  active = a;
-  requested = q;
-  serving = r.serving;
-}
+changed r d a q = record r { due = d; active = a; requested = q }
 
 -- a request makes no more due than is left of the block
 made_due_by : (m : TransferMode) (p f : Fields) → requested_words m p f ≤ words_left p f
@@ -186,18 +176,10 @@ module _ (r : Row) (w : ℕ) (s : Sound r) (fits : w < 2 ^ 24) where
   -- the new word is held, and the channel is active where it has to be
   settled : (d : ℕ) (a q : Bool) → Held → d ≤ words_left (preloaded n) (counted n) → (a ≡ false → d ≡ 0) → (enable w ≡ true → a ≡ true) → Sound (changed n d a q)
   unfolding n changed
-  settled d a q h due-fits rests on = record {
-    source = s.source;
-    destination = s.destination;
-    count = s.count;
-    preload = s.preload;
-    control = fits;
-    decodes = h.decodes;
-    counts = h.counts;
-    due = due-fits;
-    due_active = rests;
-    enabled_active = on;
-  }
+  settled d a q h due-fits rests on =
+      let decodes = h.decodes in
+      let counts = h.counts in
+      assumption
 
   -- the word leaves DE 0, or the channel is active
   off : enable w ≡ false → {a : Bool} → enable w ≡ true → a ≡ true

@@ -1,5 +1,5 @@
 -- Eight worked cases of the registers and of arbitration, as one table of values.
-use Rattle.std.specs.Prelude.{◌≡◌, ℕ, zero, suc, true, false, List, [], ◌∷◌, replicate, Some, None, Option}
+use Rattle.std.specs.Prelude.{◌≡◌, ℕ, zero, suc, true, List, [], ◌∷◌, Some, None, Option}
 use Rattle.memory.specs.declared.refusal.Refusal.{Refusal}
 use Rattle.memory.specs.Refusals.{number}
 use Rattle.registers.specs.Counter.{block_length}
@@ -13,17 +13,8 @@ use Rattle.dma.specs.State.{State, reset, reset_row}
 
 -- a channel with these registers and words due
 abbrev pub channel : ℕ → ℕ → ℕ → ℕ → Row
-channel control counter source due = record {
-  source = source;
-  destination = 0;
-  count = counter;
-  preload = counter;
-  control = control;
-  due = due;
-  active = true;
-  requested = false;
-  serving = false;
-}
+channel control counter source due =
+    record reset_row { source = source; count = counter; preload = counter; control = control; due = due; active = true }
 
 -- the channel after so many words, and the addresses that they came from
 abbrev pub after_words : ℕ → List ℕ → Row → Row
@@ -45,7 +36,7 @@ refusal_number (Some refusal) = number refusal
 
 -- a controller with these channels, each priority remembering channel 5
 abbrev pub with_rows : List Row → State
-with_rows rows = record { rows = rows; offsets = replicate 4 0; last = replicate 4 5 }
+with_rows rows = record reset { rows = rows }
 
 -- a case: what is given, and last what is to come out
 pub data Case : Type 0 where

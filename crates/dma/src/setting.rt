@@ -51,7 +51,7 @@ impl Row {
             | TransferMode::BlockKeepingEnable => {
                 self.due = 0;
                 self.active = false;
-                self.requested = self.requested | settings.interrupts;
+                self.requested |= settings.interrupts;
             }
         }
     }

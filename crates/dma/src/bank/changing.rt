@@ -4,7 +4,7 @@ ghost use Rattle.std.specs.Fn.{FnOnceReturnsAtMut};
 ghost use Rattle.dma.specs.declared.row.Row.{Row};
 ghost use Rattle.dma.specs.Banks.{state_of};
 ghost use Rattle.dma.specs.Sets.{with_row};
-ghost use Rattle.dma.specs.Soundness.{sound};
+ghost use Rattle.dma.specs.Soundness.{Sound};
 ghost use Rattle.dma.specs.State.{row_at};
 
 use crate::bank::Bank;
@@ -20,7 +20,7 @@ impl Bank {
         change: F,
     ) -> Result<(), Refusal>
         requires callable { F.IsAlwaysCallable change }
-        requires leaves_sound { (answer : _) (row : Row) → FnOnceReturnsAtMut F.FnOnce change (row_at self.old.rows channel) answer row → sound row ≡ true }
+        requires leaves_sound { (answer : _) (row : Row) → FnOnceReturnsAtMut F.FnOnce change (row_at self.old.rows channel) answer row → Sound row }
         ensures changed { (row : Row) × FnOnceReturnsAtMut F.FnOnce change (row_at self.old.rows channel) result row × (state_of self.new ≡ with_row (state_of self.old) channel row) }
     {
         let mut rows = self.rows;
