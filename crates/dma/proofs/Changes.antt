@@ -1,5 +1,5 @@
 -- One row of the table is changed by a call that may be refused.
-use Rattle.std.proofs.Common.{◌≡◌, ℕ, ◌^◌, ◌<◌, ◌≤◌, Bool, true, false, cond, ◌||◌, List, map, set, is_some, Some, None, Option, unwrap_or, sym, refl, ap, ◌∙◌, subst, zero-le, arith}
+use Rattle.std.proofs.Common.{◌≡◌, ℕ, ◌^◌, ◌<◌, ◌≤◌, Bool, true, false, cond, ◌||◌, List, map, is_some, Some, None, Option, unwrap_or, sym, refl, ap, ◌∙◌, subst, zero-le, arith}
 use Rattle.std.proofs.lemmas.List.{set-get_or}
 use Rattle.std.proofs.lemmas.Bool.{and_parts, and_from, both_ways, cond_both, le-ltb}
 use Rattle.memory.specs.declared.refusal.Refusal.{Refusal}
@@ -21,7 +21,7 @@ use Rattle.dma.specs.Services.{with_service}
 use Rattle.dma.specs.Soundness.{sound}
 use Rattle.dma.specs.State.{State, reset_row, row_at}
 use Rattle.dma.proofs.ControlSets.{made_due_fits, control_set}
-use Rattle.dma.proofs.Tables.{all_of_set, all_of_map}
+use Rattle.dma.proofs.Tables.{all_of_map}
 use Rattle.dma.proofs.SoundRows.{Sound, opened, closed, source_set, destination_set, counter_set}
 
 pub row_changed : (s : State) (c : ℕ) (o : Option Refusal) (f : Row → Row) (r : Row) → r ≡ unless o (row_at s.rows c) (f (row_at s.rows c)) → with_row s c r ≡ unless o s (change s c f)
@@ -78,9 +78,11 @@ service_keeps r requested serving s = record {
   enabled_active = s.enabled_active;
 }
 
--- the table with one row changed is sound again
-pub sound_table : (rows : List Row) (c : ℕ) (o : Option Refusal) (f : Row → Row) (q : Row) → q ≡ unless o (row_at rows c) (f (row_at rows c)) → ((k : ℕ) → sound (row_at rows k) ≡ true) → (o ≡ None → Sound (row_at rows c) → Sound (f (row_at rows c))) → (k : ℕ) → sound (row_at (set rows c q) k) ≡ true
-sound_table rows c o f q e all keeps = all_of_set (λ x. sound x ≡ true) rows c q reset_row all (sound_unless o (row_at rows c) (f (row_at rows c)) q e (all c) keeps)
+pub service_sound : (o : Option Refusal) (r q : Row) (requested serving : Bool) → q ≡ unless o r (with_service r requested serving) → sound r ≡ true → sound q ≡ true
+service_sound o r q requested serving e s = sound_unless o r _ q e s (λ _. service_keeps r requested serving)
+
+pub set_sound : (r q : Row) (register : Register) (value : ℕ) → value < 2 ^ 24 → q ≡ unless (row_refusal r register value) r (row_set r register value) → sound r ≡ true → sound q ≡ true
+set_sound r q register value fits e s = sound_unless _ r _ q e s (row_set_keeps r register value fits)
 
 -- the settings say what the control word says of DE
 enabled_in : (w : ℕ) (m : Option TransferMode) (h : Option Shape) (p : Option Spaces) → is_some (set_up w m h p) ≡ true → (unwrap_or (set_up w m h p) zero_settings).enabled ≡ enable w
