@@ -22,7 +22,7 @@ use Rattle.dma.specs.Services.{with_service}
 use Rattle.dma.specs.Soundness.{Sound}
 use Rattle.dma.specs.State.{State, reset_row, row_at}
 use Rattle.dma.proofs.ControlSets.{made_due_fits, decoded, control_set}
-use Rattle.dma.proofs.Tables.{all_of_set, all_of_map}
+use Rattle.dma.proofs.Tables.{all_of_map}
 use Rattle.dma.proofs.SoundRows.{source_set, destination_set, counter_set}
 
 pub row_changed : (s : State) (c : ℕ) (o : Option Refusal) (f : Row → Row) (r : Row) → r ≡ unless o (row_at s.rows c) (f (row_at s.rows c)) → with_row s c r ≡ unless o s (change s c f)
@@ -64,9 +64,11 @@ row_set_keeps r Dstr value fits e s = s
 pub service_keeps : (r : Row) (requested serving : Bool) → Sound r → Sound (with_service r requested serving)
 service_keeps r requested serving s = assumption
 
--- the table with one row changed is sound again
-pub sound_table : (rows : List Row) (c : ℕ) (o : Option Refusal) (f : Row → Row) (q : Row) → q ≡ unless o (row_at rows c) (f (row_at rows c)) → ((k : ℕ) → Sound (row_at rows k)) → (o ≡ None → Sound (row_at rows c) → Sound (f (row_at rows c))) → (k : ℕ) → Sound (row_at (set rows c q) k)
-sound_table rows c o f q e all keeps = all_of_set Sound rows c q reset_row all (sound_unless o (row_at rows c) (f (row_at rows c)) q e (all c) keeps)
+pub service_sound : (o : Option Refusal) (r q : Row) (requested serving : Bool) → q ≡ unless o r (with_service r requested serving) → Sound r → Sound q
+service_sound o r q requested serving e s = sound_unless o r _ q e s (λ _. service_keeps r requested serving)
+
+pub set_sound : (r q : Row) (register : Register) (value : ℕ) → value < 2 ^ 24 → q ≡ unless (row_refusal r register value) r (row_set r register value) → Sound r → Sound q
+set_sound r q register value fits e s = sound_unless _ r _ q e s (row_set_keeps r register value fits)
 
 -- the settings say what the control word says of DE
 pub settings_enabled : (r : Row) → Sound r → (settings r).enabled ≡ enable r.control

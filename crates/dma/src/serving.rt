@@ -40,7 +40,7 @@ impl Row {
     pub fn halt(&mut self)
         ensures after { self.new ≡ halted self.old }
     {
-        self.active = self.active & self.settings().enabled;
+        self.active &= self.settings().enabled;
         self.due = 0;
     }
 }

@@ -1,20 +1,10 @@
 use Rattle.std.proofs.Common.{rules, arith, ◌≡◌, sym, ap, ◌∙◌}
-use Rattle.dma.specs.Sets.{row_refusal, row_set}
 use Rattle.dma.specs.Banks.{state_of}
-use Rattle.dma.specs.State.{row_at}
 use Rattle.dma.specs.Refusing.{answer}
-use Rattle.dma.proofs.Changes.{sound_unless, row_set_keeps, refused_as_the_row, channel_set}
+use Rattle.dma.specs.Sets.{row_refusal}
+use Rattle.dma.specs.State.{row_at}
+use Rattle.dma.proofs.Changes.{refused_as_the_row, channel_set}
 use Rattle.dma.proofs.bank.Bank.set.Goals as goal
-
-pub change_row-requires-clause-leaves_sound : goal.change_row-requires-clause-leaves_sound
-change_row-requires-clause-leaves_sound c answer row ran =
-    let b = c.args.self.now in
-    let channel = c.in_ok-try_from-in-Dsr.field-0 in
-    let r = row_at b.rows channel in
-    let register = c.args.register in
-    let value = c.args.value in
-    let fits = c.if-value-gt16777215.false in
-    sound_unless (row_refusal r register value) r (row_set r register value) row (search rules) (b.channels channel) (row_set_keeps r register value (omega arith))
 
 pub returns-in_ok-try_from-in-Dsr-clause-value : goal.returns-in_ok-try_from-in-Dsr-clause-value
 returns-in_ok-try_from-in-Dsr-clause-value c =
@@ -28,6 +18,5 @@ pub returns-in_ok-try_from-in-Dsr-clause-after : goal.returns-in_ok-try_from-in-
 returns-in_ok-try_from-in-Dsr-clause-after c =
     let s = state_of c.args.self.now in
     let changed = c.change_row.ensures.changed in
-    let w = c.in-Dsr in
     let fits = c.if-value-gt16777215.false in
     changed.2 ∙ channel_set s c.args.register c.args.value c.in_ok-try_from-in-Dsr.field-0 (search rules) (omega arith) (search rules) changed.0 (search rules)
