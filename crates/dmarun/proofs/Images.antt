@@ -1,7 +1,10 @@
 -- The console's memory, word by word.
-use Rattle.std.proofs.Common.{◌≡◌, ℕ, ◌+◌, ◌-◌, ◌<◌, ◌≤◌, cond, List, length, get_or, set, replicate, ap, ◌∙◌, ⊎_elim, arith}
+use Rattle.std.proofs.Common.{◌≡◌, ℕ, ◌+◌, ◌-◌, ◌<◌, ◌≤◌, cond, List, ◌++◌, length, get_or, set, replicate, ap, ◌∙◌, ⊎_elim, arith}
 use Rattle.std.proofs.lemmas.List.{get_or-set_same, get_or-set_other, length-set, get_or-replicate, length-replicate, get_or_past}
-use Rattle.std.proofs.lemmas.Bool.{cases_eq, cases_lt}
+use Rattle.std.proofs.lemmas.Grind.{common_steps}
+use Rattle.std.proofs.lemmas.List.FromFn.{length-range_with_len, get_or-range_with_len}
+use Rattle.std.specs.List.{range_with_len}
+use Rattle.std.proofs.lemmas.Bool.{cases_lt}
 use Rattle.memory.specs.declared.flat.FlatSizes.{FlatSizes}
 use Rattle.memory.specs.declared.packed.PackedSizes.{PackedSizes}
 use Rattle.memory.specs.declared.place.Place.{Place}
@@ -14,31 +17,26 @@ use Rattle.memory.specs.Packed.{packed_owner, packed_unfit, packed_word, packed_
 use Rattle.std.proofs.lemmas.Bool.Decides.{nat_tests}
 use Rattle.dmarun.specs.Console.{low_kind, high_kind, first_word, console, Image}
 
--- the list once the fixed places below n have their addresses
-pub record SoFar (words : List ℕ) (n : ℕ) : Type 0 where
-  pub long : length words ≡ 768
-  pub zeros : (i : ℕ) → i < 640 → get_or words i 0 ≡ 0
-  pub addresses : (i : ℕ) → 640 ≤ i → i < 512 + n → get_or words i 0 ≡ i - 512
+-- zeros, and then numbers one after another
+module _ (n a m : ℕ) where
+  abbrev counted : List ℕ
+  counted = replicate n 0 ++ range_with_len a m
 
-pub all_zero : (words : List ℕ) → words ≡ replicate 768 0 → SoFar words 0x80
-all_zero words e = record {
-  long = ap length e ∙ length-replicate {A = ℕ} 768 0;
-  zeros = λ i h. ap (λ l. get_or l i 0) e ∙ get_or-replicate 768 i 0 0 (omega arith);
-  addresses = λ i h k. absurd (omega arith);
+  length-counted : length counted ≡ n + m
+  length-counted = grind (arith, common_steps, length-range_with_len)
+
+  zero_at : (i : ℕ) → i < n → get_or counted i 0 ≡ 0
+  zero_at i h = grind (arith, common_steps)
+
+  number_at : (i : ℕ) → n ≤ i → i < n + m → get_or counted i 0 ≡ a + (i - n)
+  number_at i low high = grind (arith, common_steps, get_or-range_with_len, length-range_with_len)
+
+pub image_of : (words : List ℕ) → words ≡ counted 640 128 128 → Image words
+image_of words e = record {
+  long = ap length e ∙ length-counted 640 128 128;
+  zeros = λ i h. ap (λ l. get_or l i 0) e ∙ zero_at 640 128 128 i h;
+  addresses = λ i low high. ap (λ l. get_or l i 0) e ∙ number_at 640 128 128 i low high ∙ omega arith;
 }
-
-pub one_more : (words : List ℕ) (n : ℕ) → 0x80 ≤ n → n < 0x100 → SoFar words n → SoFar (set words (512 + n) n) (n + 1)
-one_more words n low high s = record {
-  long = length-set words (512 + n) n ∙ s.long;
-  zeros = λ i h. get_or-set_other words (512 + n) i n 0 (omega arith) ∙ s.zeros i h;
-  addresses = λ i h k. ⊎_elim
-      (λ e. ap (λ j. get_or (set words (512 + n) n) j 0) e ∙ get_or-set_same words (512 + n) n 0 (omega (arith, s.long)) ∙ omega arith)
-      (λ ne. get_or-set_other words (512 + n) i n 0 ne ∙ s.addresses i h (omega arith))
-      (cases_eq i (512 + n));
-}
-
-pub whole : (words : List ℕ) (n : ℕ) → 0x100 ≤ n → SoFar words n → Image words
-whole words n h s = record { long = s.long; zeros = s.zeros; addresses = λ i low high. s.addresses i low (omega arith) }
 
 abbrev flat : FlatSizes
 flat = record { x = 256; y = 256; p = 256; fixed_from = 128 }

@@ -10,6 +10,7 @@ use memory::flat::{Flat, FlatSizes};
 use memory::packed::{Packed, PackedSizes};
 use memory::place::Space;
 use std::alloc::{AllocError, Global};
+use std::iter;
 
 // The first address of the packed memory.
 const BORDER: u32 = 0x100;
@@ -27,11 +28,8 @@ const PACKED: u32 = 64;
 fn image(heap: Global) -> Result<Vec<u32>, AllocError>
     ensures value { IfOk result (λ v. Image v.items) }
 {
-    let mut words = vec![in heap; 0u32; 768]?;
-    for address in 0x80..0x100u32 {
-        words[512 + address as usize] = address;
-    }
-    Ok(words)
+    let zeros = iter::repeat_n(0, (2 * WORDS + FIXED) as usize);
+    zeros.chain(FIXED..WORDS).collect(heap)
 }
 
 pub fn memory(heap: Global) -> Result<Border<Flat, Packed>, AllocError>

@@ -4,4 +4,4 @@ mod Numbers
 mod Sequences
 mod Places
 mod Registers
-mod Forms
+pub mod Forms

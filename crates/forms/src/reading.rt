@@ -1,7 +1,7 @@
 // Reading one line of a script into a form.
 ghost use Rattle.std.specs.Prelude.{◌≡◌, codes, MatchOption, IsSomeAnd};
 ghost use Rattle.forms.specs.declared.form.Form.TheVariants.{Raise, Serve};
-ghost use Rattle.forms.specs.Reading.{form_of, forms, bare_forms, space_of, place_of, named, names, register_of, store_of, load_of, set_of, get_of, number_as};
+ghost use Rattle.forms.specs.Reading.{form_of, forms, bare_forms, space_of, place_of, named, names, numbered_of, register_of, store_of, load_of, set_of, get_of, number_as};
 ghost use Rattle.forms.specs.Scanning.{seen, first_way, bind, skipped, last_word_of};
 ghost use Rattle.forms.specs.Spelling.{Exact};
 
@@ -46,16 +46,22 @@ fn numbered(name: &[u8; 3], number: u8) -> Option<Register>
     }
 }
 
+// What follows `(` of a register that has a number.
+fn take_numbered(s: &[u8]) -> Option<(Register, &[u8])>
+    ensures value { seen result ≡ numbered_of s.now }
+{
+    let (name, s) = s.split_first_chunk::<3>()?;
+    let (number, s) = take_number(skip(s, b" ")?)?;
+    Some((numbered(name, number)?, s))
+}
+
 // A register, as `(dsr 0)` or `(dstr)`.
 fn take_register(s: &[u8]) -> Option<(Register, &[u8])>
     ensures value { seen result ≡ register_of s.now }
 {
-    if let Some(s) = skip(s, b"(dstr)") {
-        return Some((Register::Dstr, s));
-    }
-    let (name, s) = skip(s, b"(")?.split_first_chunk::<3>()?;
-    let (number, s) = take_number(skip(s, b" ")?)?;
-    Some((numbered(name, number)?, s))
+    skip(s, b"(dstr)")
+        .map(|s| (Register::Dstr, s))
+        .or_else(|| take_numbered(skip(s, b"(")?))
 }
 
 // What was read, and a word after it, as the form that they make.
@@ -72,10 +78,7 @@ fn with_word<T: Copy, F: FnOnce(T, u32) -> Form>(
 }
 
 // What was read, and the parenthesis that closes it, as the form that it makes.
-fn closed<T: Copy, F: FnOnce(T) -> Form>(
-    read: Option<(T, &[u8])>,
-    form: F,
-) -> Option<(Form, &[u8])>
+fn closed<T: Copy, F: FnOnce(T) -> Form>(read: Option<(T, &[u8])>, form: F) -> Option<(Form, &[u8])>
     requires { F.IsAlwaysCallable form }
     ensures value { MatchOption (seen read.entry) (result ≡ None) (λ a. MatchOption (skipped (codes ")") a.1) (result ≡ None) (λ rest. IsSomeAnd result (λ p. F.post form a.0 p.0 × (p.1.now ≡ rest)))) }
 {
@@ -150,6 +153,7 @@ fn take_form(s: &[u8]) -> Option<(Form, &[u8])>
 }
 
 // The form that the line spells, if it spells one.
+#[tactic(auto, using(crate::proofs::Forms::exact_reading), unfolding(crate::specs::Reading::form_of))]
 pub fn read(line: &[u8]) -> Option<Form>
     ensures value { result ≡ form_of line.now }
     ensures exact { Exact line.now result }

@@ -1,9 +1,15 @@
-use Rattle.std.proofs.Common.{arith}
-use Rattle.dmarun.proofs.Images.{all_zero, one_more}
+use Rattle.std.proofs.Common.{◌≡◌, ℕ, ◌++◌, List, replicate, refl}
+use Rattle.std.proofs.lemmas.Iterator.{YieldsList-from_range, items_from_collect}
+use Rattle.std.proofs.lemmas.Iterator.Adapters.{YieldsList-from_repeat_n}
+use Rattle.std.proofs.lemmas.Iterator.Consumers.{YieldsList-from_chain, YieldsList-at}
+use Rattle.std.proofs.lemmas.Result.{IfOk-weaker}
+use Rattle.std.specs.List.{range_with_len}
+use Rattle.dmarun.specs.Console.{Image}
+use Rattle.dmarun.proofs.Images.{image_of}
 use Rattle.dmarun.proofs.console.image.Goals as goal
 
-pub loop-address-init : goal.loop-address-init
-loop-address-init c = all_zero _ (c.in_ok-words.ensures.items_if_clones_equal (λ y e. e))
-
-pub loop-address-preserved : goal.loop-address-preserved
-loop-address-preserved c = one_more _ _ (omega arith) (omega arith) c.loop-address.invariant
+pub returns : goal.returns
+returns c =
+    let zeros = YieldsList-at c.chain.ensures.first (YieldsList-from_repeat_n (λ (x : ℕ) (y : ℕ). y ≡ x) 640 0 c.repeat_n-zeros.ensures.count c.repeat_n-zeros.ensures.item (λ y e. e)) in
+    let addresses = YieldsList-from_range 128 256 128 c.chain.ensures.second refl in
+    record { value = IfOk-weaker _ _ _ (λ v e. image_of _ e) (items_from_collect _ c.collect.ensures.ran (YieldsList-from_chain zeros addresses c.chain.ensures.first_done c.chain.ensures.second_done)) }
