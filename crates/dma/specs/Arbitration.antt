@@ -18,6 +18,7 @@ competes_at priority contender = contender.due && contender.priority == priority
 abbrev pub competes : Contest → ℕ → ℕ → Bool
 competes k priority c = competes_at priority (contender_at k c)
 
+-- any of the six has words due at this priority
 abbrev pub any_competes : Contest → ℕ → Bool
 any_competes k priority = list_any (competes_at priority) k.contenders
 

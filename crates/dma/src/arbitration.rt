@@ -62,7 +62,7 @@ impl Contest {
         }
     }
 
-    // The next channel upward that competes, 0 following 5.
+    // The next channel upward that competes, 0 following 5, and `last` itself asked last.
     fn upward(&self, priority: u8, last: u8) -> Option<u8>
         ensures value { result ≡ upward self.now priority 6 ((last + 1) % 6) }
     {
