@@ -19,7 +19,6 @@ impl Bank {
         self.offsets = offsets;
     }
 
-    #[tactic(auto, using(crate::proofs::Changes::set_sound))]
     pub fn set(&mut self, register: Register, value: u32) -> Result<(), Refusal>
         ensures value { result ≡ set_answer (state_of self.old) register value }
         ensures after { state_of self.new ≡ after_set (state_of self.old) register value }

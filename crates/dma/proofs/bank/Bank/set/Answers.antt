@@ -3,8 +3,15 @@ use Rattle.dma.specs.Banks.{state_of}
 use Rattle.dma.specs.Refusing.{answer}
 use Rattle.dma.specs.Sets.{row_refusal}
 use Rattle.dma.specs.State.{row_at}
-use Rattle.dma.proofs.Changes.{refused_as_the_row, channel_set}
+use Rattle.dma.proofs.Changes.{set_sound, refused_as_the_row, channel_set}
 use Rattle.dma.proofs.bank.Bank.set.Goals as goal
+
+pub change_row-requires-clause-leaves_sound : goal.change_row-requires-clause-leaves_sound
+change_row-requires-clause-leaves_sound c answer row ran =
+    let b = c.args.self.now in
+    let channel = c.in_ok-try_from-in-Dsr.field-0 in
+    let small = c.if-value-gt16777215.false in
+    set_sound (row_at b.rows channel) row c.args.register c.args.value (omega arith) (search rules) (b.channels channel)
 
 pub returns-in_ok-try_from-in-Dsr-clause-value : goal.returns-in_ok-try_from-in-Dsr-clause-value
 returns-in_ok-try_from-in-Dsr-clause-value c =
