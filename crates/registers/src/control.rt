@@ -118,7 +118,7 @@ impl TryFrom<u32> for TransferMode {
     }
 }
 
-// The update of a side by its code. The codes of three dimensions are reserved.
+// The update of a side by its code; no TryFrom, since the other side decides what a code means. The codes of three dimensions are reserved.
 fn flat_update(code: u32) -> Result<Update, Refusal>
     ensures value { Gives (update_of false code) ReservedShape result }
 {
