@@ -1,7 +1,8 @@
-use Rattle.std.proofs.Common.{◌≡◌, ℕ, ◌<◌, List, length, get_or, Some, None, Option, sym, ◌∙◌, arith}
+use Rattle.std.proofs.Common.{◌≡◌, ℕ, ◌<◌, List, length, get_or, Some, None, Option, sym, ap, ◌∙◌, arith}
 use Rattle.std.proofs.lemmas.List.{get_or_default}
 use Rattle.dma.specs.declared.service.Service.{Service}
 use Rattle.dma.specs.Controllers.{state}
+use Rattle.dma.specs.Services.{after_return}
 use Rattle.history.proofs.Serving.{own_token, never_handed_back, token_spent}
 use Rattle.history.proofs.awake.Awake.finish_channel.Goals as goal
 
@@ -23,3 +24,11 @@ unreachable-requires c =
     let held = token_held d.services c.args.channel _ _ _ inside c.take.ensures.value c.in-Some.is in
     let own = own_token d.services (state d.controller).rows c.args.channel c.in-Some.service held (d.tokens c.args.channel) in
     never_handed_back (state d.controller) c.args.channel _ _ own.0 own.1 c.in-Err.ensures.value.0
+
+pub returns-in-Ok-clause-after : goal.returns-in-Ok-clause-after
+returns-in-Ok-clause-after c =
+    let d = c.args.self in
+    let inside : c.args.channel < length d.services = omega arith in
+    let held = token_held d.services c.args.channel _ _ _ inside c.take.ensures.value c.in-Some.is in
+    let own = own_token d.services (state d.controller).rows c.args.channel c.in-Some.service held (d.tokens c.args.channel) in
+    c.finish.ensures.after ∙ ap (after_return (state d.controller)) own.1
