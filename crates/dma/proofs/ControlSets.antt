@@ -176,7 +176,7 @@ module _ (r : Row) (w : ℕ) (s : Sound r) (fits : w < 2 ^ 24) where
   -- the new word is held, and the channel is active where it has to be
   settled : (d : ℕ) (a q : Bool) → Held → d ≤ words_left (preloaded n) (counted n) → (a ≡ false → d ≡ 0) → (enable w ≡ true → a ≡ true) → Sound (changed n d a q)
   unfolding n changed
-  settled d a q h due-fits rests on =
+  settled d a q h due_fits rests on =
       let decodes = h.decodes in
       let counts = h.counts in
       assumption

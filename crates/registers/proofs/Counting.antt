@@ -1,16 +1,15 @@
 -- Words left and words moved, over the fields of a preload and of a count.
-use Rattle.std.proofs.Common.{◌≡◌, ℕ, zero, suc, ◌+◌, ◌-◌, ◌*◌, ◌/◌, ◌%◌, ◌<◌, ◌≤◌, true, false, eqb, ◌↔◌, sym, refl, ap, ◌∙◌, mul-le-mul, arith}
+use Rattle.std.proofs.Common.{◌≡◌, ℕ, zero, suc, ◌+◌, ◌-◌, ◌*◌, ◌/◌, ◌%◌, ◌<◌, ◌≤◌, true, false, eqb, ◌↔◌, sym, ap, ◌∙◌, mul-le-mul, arith}
 use Rattle.std.proofs.lemmas.Nat.{div-mul-add, mod-mul-add}
-use Rattle.std.proofs.lemmas.Bool.{both_ways}
 use Rattle.std.proofs.lemmas.Bool.Decides.{nat_tests}
 use Rattle.registers.specs.declared.counter.Fields.{Fields}
 use Rattle.registers.specs.Counter.{fields, lines, line_length, block_length, words_left, position, Within, ends_block, stepped}
 
 pub same_fields : (f g : Fields) → f.high ≡ g.high → f.middle ≡ g.middle → f.low ≡ g.low → f ≡ g
-same_fields f g high middle low = λ i. record { high = high i; middle = middle i; low = low i }
+same_fields f g high middle low = grind arith
 
 pub within_itself : (p : Fields) → Within p p
-within_itself p = record { high = omega arith; middle = omega arith; low = omega arith }
+within_itself p = omega arith
 
 -- more room and a larger count leave no fewer words
 pub words_left_grow : (p q f g : Fields) → Within q p → Within g f → words_left p f ≤ words_left q g
@@ -40,9 +39,9 @@ nothing_moved_at_preload p = omega (arith, all_words_left_at_preload p)
 
 -- a number of two digits in base `base` tells both of them
 digits_apart : (a b c d base : ℕ) → b < base → d < base → a * base + b ≡ c * base + d → (a ≡ c) × (b ≡ d)
-digits_apart a b c d base low-b low-d e = (
-  sym (div-mul-add a base b low-b) ∙ ap (λ n. n / base) e ∙ div-mul-add c base d low-d,
-  sym (mod-mul-add a base b low-b) ∙ ap (λ n. n % base) e ∙ mod-mul-add c base d low-d,
+digits_apart a b c d base low_b low_d e = (
+  sym (div-mul-add a base b low_b) ∙ ap (λ n. n / base) e ∙ div-mul-add c base d low_d,
+  sym (mod-mul-add a base b low_b) ∙ ap (λ n. n % base) e ∙ mod-mul-add c base d low_d,
 )
 
 pub words_left_tell_fields : (p f g : Fields) → Within p f → Within p g → words_left p f ≡ words_left p g → f ≡ g
@@ -62,7 +61,7 @@ nothing_moved_is_preload p f w =
 
 -- a step keeps to the room that preload and count keep to
 pub stepped_fits : (q p f : Fields) → Within q p → Within q f → Within q (stepped p f)
-stepped_fits q p f room fits = record { high = grind (arith, nat_tests); middle = grind (arith, nat_tests); low = grind (arith, nat_tests) }
+stepped_fits q p f room fits = grind (arith, nat_tests)
 
 pub stepped_within : (p f : Fields) → Within p f → Within p (stepped p f)
 stepped_within p f w = stepped_fits p p f (within_itself p) w
@@ -74,10 +73,10 @@ one_less : (n : ℕ) → suc n - 1 ≡ n
 one_less n = omega arith
 
 one_word_less : (p : Fields) (high middle low : ℕ) → ends_block (fields high middle low) ≡ false → words_left p (stepped p (fields high middle low)) + 1 ≡ words_left p (fields high middle low)
-one_word_less p zero zero zero inside = absurd (both_ways true inside refl)
+one_word_less p zero zero zero inside = cc
 one_word_less p (suc high) zero zero inside = rw (not_zero high, one_less high) (omega arith)
 one_word_less p high (suc middle) zero inside = rw (not_zero middle, one_less middle) (omega arith)
-one_word_less p high middle (suc low) inside = rw (not_zero low, one_less low) (omega arith)
+one_word_less p high middle (suc low) inside = grind (arith, nat_tests)
 
 pub step_takes_one_word : (p f : Fields) → ends_block f ≡ false → words_left p (stepped p f) + 1 ≡ words_left p f
 step_takes_one_word p f inside = one_word_less p f.high f.middle f.low inside
@@ -92,7 +91,7 @@ step_moves_one_word p f w inside =
     )
 
 pub block_end_returns_all : (p f : Fields) → ends_block f ≡ true → stepped p f ≡ p
-block_end_returns_all p f end = rw end
+block_end_returns_all p f end = cc
 
 pub block_end_at_last_word : (p f : Fields) → ends_block f ≡ true → words_left p f ≡ 1
 block_end_at_last_word p f end = grind (arith, nat_tests)

@@ -118,7 +118,7 @@ impl TryFrom<u32> for TransferMode {
     }
 }
 
-// The update of a side by its code. The codes of three dimensions are reserved unless the other side has three.
+// The update of a side by its code; no TryFrom, since the other side decides what a code means. The codes of three dimensions are reserved unless the other side has three.
 fn update_of(beside: bool, code: u32) -> Result<Update, Refusal>
     ensures value { Gives (update_of beside code) ReservedShape result }
 {
