@@ -19,10 +19,10 @@ use Rattle.dma.specs.Refusing.{unless}
 use Rattle.registers.specs.Names.{unknown, channel_of}
 use Rattle.dma.specs.Sets.{row_refusal, row_set, with_row, change, shared_refusal, shared_set, set_refusal, after_set}
 use Rattle.dma.specs.Services.{with_service}
-use Rattle.dma.specs.Soundness.{Sound}
+use Rattle.dma.specs.Soundness.{Sound, AllSound}
 use Rattle.dma.specs.State.{State, reset_row, row_at}
 use Rattle.dma.proofs.ControlSets.{made_due_fits, decoded, control_set}
-use Rattle.dma.proofs.Tables.{all_of_map}
+use Rattle.dma.proofs.Tables.{all_of_set, all_of_map}
 use Rattle.dma.proofs.SoundRows.{source_set, destination_set, counter_set}
 
 pub row_changed : (s : State) (c : ℕ) (o : Option Refusal) (f : Row → Row) (r : Row) → r ≡ unless o (row_at s.rows c) (f (row_at s.rows c)) → with_row s c r ≡ unless o s (change s c f)
@@ -64,11 +64,18 @@ row_set_keeps r Dstr value fits e s = s
 pub service_keeps : (r : Row) (requested serving : Bool) → Sound r → Sound (with_service r requested serving)
 service_keeps r requested serving s = assumption
 
-pub service_sound : (o : Option Refusal) (r q : Row) (requested serving : Bool) → q ≡ unless o r (with_service r requested serving) → Sound r → Sound q
-service_sound o r q requested serving e s = sound_unless o r _ q e s (λ _. service_keeps r requested serving)
+pub service_sound : (rows : List Row) (c : ℕ) (o : Option Refusal) (q : Row) (requested serving : Bool) → q ≡ unless o (row_at rows c) (with_service (row_at rows c) requested serving) → AllSound rows → Sound q
+unfolding AllSound
+service_sound rows c o q requested serving e all = sound_unless o (row_at rows c) _ q e (all c) (λ _. service_keeps (row_at rows c) requested serving)
 
-pub set_sound : (r q : Row) (register : Register) (value : ℕ) → value < 2 ^ 24 → q ≡ unless (row_refusal r register value) r (row_set r register value) → Sound r → Sound q
-set_sound r q register value fits e s = sound_unless _ r _ q e s (row_set_keeps r register value fits)
+pub set_sound : (rows : List Row) (c : ℕ) (q : Row) (register : Register) (value : ℕ) → value < 2 ^ 24 → q ≡ unless (row_refusal (row_at rows c) register value) (row_at rows c) (row_set (row_at rows c) register value) → AllSound rows → Sound q
+unfolding AllSound
+set_sound rows c q register value fits e all = sound_unless _ (row_at rows c) _ q e (all c) (row_set_keeps (row_at rows c) register value fits)
+
+-- the table with one row changed
+pub sound_with : (rows : List Row) (c : ℕ) (q : Row) → AllSound rows → Sound q → AllSound (set rows c q)
+unfolding AllSound
+sound_with rows c q all s = all_of_set Sound rows c q reset_row all s
 
 -- the settings say what the control word says of DE
 pub settings_enabled : (r : Row) → Sound r → (settings r).enabled ≡ enable r.control
@@ -93,14 +100,16 @@ halted_keeps r s =
     assumption
 
 -- a change of every row keeps the table sound
-pub sound_mapped : (rows : List Row) (f : Row → Row) (after : List Row) → after ≡ map f rows → ((k : ℕ) → Sound (row_at rows k)) → ((r : Row) → Sound r → Sound (f r)) → (k : ℕ) → Sound (row_at after k)
+pub sound_mapped : (rows : List Row) (f : Row → Row) (after : List Row) → after ≡ map f rows → AllSound rows → ((r : Row) → Sound r → Sound (f r)) → AllSound after
+unfolding AllSound
 sound_mapped rows f after is all keeps k = subst (λ l. Sound (row_at l k)) (sym is) (all_of_map Sound f rows reset_row all keeps k)
 
 pub due_bound : (r : Row) → Sound r → r.due ≤ 2 ^ 24
 due_bound r s = omega (arith, s.due, words_left_fit (layout r) (preloaded r) (counted r) (cut_fits (layout r) r.preload) (cut_fits (layout r) r.count))
 
 -- the due words of six sound rows are a 32-bit number
-pub all_due_fit : (rows : List Row) → length rows ≡ 6 → ((k : ℕ) → Sound (row_at rows k)) → sum_by (λ (r : Row). r.due) rows < 2 ^ 32
+pub all_due_fit : (rows : List Row) → length rows ≡ 6 → AllSound rows → sum_by (λ (r : Row). r.due) rows < 2 ^ 32
+unfolding AllSound
 all_due_fit rows six all =
     let each = sum_by-le (λ (r : Row). r.due) (2 ^ 24) rows (All-from_get_or (λ r. r.due ≤ 2 ^ 24) rows reset_row (λ k h. due_bound (row_at rows k) (all k))) in
     omega arith

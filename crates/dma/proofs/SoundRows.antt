@@ -1,12 +1,13 @@
 -- A row whose registers are set stays sound.
-use Rattle.std.proofs.Common.{◌≡◌, ℕ, ◌^◌, ◌<◌, ◌≤◌, false, refl, zero-le, lit<, arith}
+use Rattle.std.proofs.Common.{replicate, ◌≡◌, ℕ, ◌^◌, ◌<◌, ◌≤◌, false, refl, zero-le, lit<, arith}
 use Rattle.registers.specs.Counter.{cut, words_left}
 use Rattle.registers.proofs.Counting.{within_itself}
 use Rattle.dma.specs.declared.row.Row.{Row}
 use Rattle.dma.specs.Channels.{layout}
 use Rattle.dma.specs.Sets.{with_source, with_destination, with_counter}
-use Rattle.dma.specs.Soundness.{Sound}
+use Rattle.dma.specs.Soundness.{Sound, AllSound}
 use Rattle.dma.specs.State.{reset_row}
+use Rattle.dma.proofs.Tables.{all_of_replicate}
 
 -- an address is set
 pub source_set : (r : Row) (a : ℕ) → a < 2 ^ 24 → Sound r → Sound (with_source r a)
@@ -36,3 +37,8 @@ reset_is_sound = record {
   due_active = λ _. refl;
   enabled_active = λ on. on;
 }
+
+-- so are all six
+pub reset_rows_are_sound : AllSound (replicate 6 reset_row)
+unfolding AllSound
+reset_rows_are_sound = all_of_replicate Sound 6 reset_row reset_row reset_is_sound reset_is_sound

@@ -12,7 +12,6 @@ use memory::refusal::Refusal;
 
 impl Bank {
     // Answers the channel whose service it opened.
-    #[tactic(auto, using(crate::proofs::Changes::service_sound))]
     pub fn begin(&mut self, c: u8) -> Result<Channel, Refusal>
         ensures value { result ≡ gives c (begin_refusal (state_of self.old) c) }
         ensures after { state_of self.new ≡ after_begin (state_of self.old) c }
@@ -22,7 +21,6 @@ impl Bank {
         Ok(channel)
     }
 
-    #[tactic(auto, using(crate::proofs::Changes::service_sound))]
     pub(crate) fn finish(&mut self, c: Channel) -> Result<(), Refusal>
         ensures value { result ≡ answer (return_refusal (state_of self.old) c) }
         ensures after { state_of self.new ≡ after_return (state_of self.old) c }

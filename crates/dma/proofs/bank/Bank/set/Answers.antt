@@ -11,7 +11,7 @@ change_row-requires-clause-leaves_sound c answer row ran =
     let b = c.args.self.now in
     let channel = c.in_ok-try_from-in-Dsr.field-0 in
     let small = c.if-value-gt16777215.false in
-    set_sound (row_at b.rows channel) row c.args.register c.args.value (omega arith) (search rules) (b.channels channel)
+    set_sound b.rows channel row c.args.register c.args.value (omega arith) (search rules) b.channels
 
 pub returns-in_ok-try_from-in-Dsr-clause-value : goal.returns-in_ok-try_from-in-Dsr-clause-value
 returns-in_ok-try_from-in-Dsr-clause-value c =
