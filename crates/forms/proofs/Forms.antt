@@ -1,5 +1,6 @@
 -- Forms are read exactly, and so is a line.
-use Rattle.std.proofs.Common.{◌≡◌, ℕ, List, [], ◌∷◌, ◌++◌, Some, codes, decimal, Option, sym, refl, ap, ◌∙◌, subst, append_assoc, append-nil}
+use Rattle.std.proofs.Common.{◌≡◌, ℕ, suc, cond, eqb, length, None, arith, List, [], ◌∷◌, ◌++◌, Some, codes, decimal, Option, sym, refl, ap, ◌∙◌, subst, append_assoc, append-nil}
+use Rattle.std.proofs.lemmas.Bool.{ne_eqb, cond-false}
 use Rattle.memory.specs.declared.place.Place.{Place}
 use Rattle.forms.specs.declared.form.Form.{Form}
 use Rattle.forms.specs.declared.form.Form.TheVariants.{Store, Load, Set, Get, Raise, Slot, Serve, Stop, Wake}
@@ -91,6 +92,10 @@ form_complete Wake rest h = refl
 ended_sound : (f form : Form) (rest : List ℕ) → ended f rest ≡ Some form → (f ≡ form) × (rest ≡ [])
 ended_sound f form [] e = (cc, refl)
 ended_sound f form (c ∷ rest) e = none_is_not_some form e
+
+pub ended_is : (f : Form) (rest : List ℕ) → ended f rest ≡ cond (eqb (length rest) 0) (Some f) None
+ended_is f [] = refl
+ended_is f (c ∷ rest) = sym (cond-false _ _ _ (ne_eqb (suc (length rest)) 0 (λ e. omega arith)))
 
 pub exact_reading : (line : List ℕ) (r : Option Form) → r ≡ form_of line → Exact line r
 unfolding form_of
