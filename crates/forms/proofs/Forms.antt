@@ -1,5 +1,7 @@
 -- Forms are read exactly, and so is a line.
-use Rattle.std.proofs.Common.{◌≡◌, ℕ, List, [], ◌∷◌, ◌++◌, Some, codes, decimal, Option, sym, refl, ap, ◌∙◌, subst, append_assoc, append-nil}
+use Rattle.std.proofs.Common.{◌≡◌, ℕ, suc, cond, eqb, length, None, arith, List, [], ◌∷◌, ◌++◌, Some, codes, decimal, Option, sym, refl, ap, ◌∙◌, subst, append_assoc, append-nil}
+use Rattle.std.proofs.lemmas.Option.{none-some, some_pair_parts}
+use Rattle.std.proofs.lemmas.Bool.{ne_eqb, cond-false}
 use Rattle.memory.specs.declared.place.Place.{Place}
 use Rattle.forms.specs.declared.form.Form.{Form}
 use Rattle.forms.specs.declared.form.Form.TheVariants.{Store, Load, Set, Get, Raise, Slot, Serve, Stop, Wake}
@@ -7,7 +9,7 @@ use Rattle.registers.specs.declared.register.Register.{Register}
 use Rattle.forms.specs.Reading.{store_of, load_of, set_of, get_of, number_as, forms, ended, form_of}
 use Rattle.forms.specs.Scanning.{bind, skipped, first_way, number_of}
 use Rattle.forms.specs.Spelling.{spelled_word, spelled_place, spelled_register, spelled, WordFits, NumberFits, RegisterFits, InRange, Exact}
-use Rattle.forms.proofs.Texts.{none_is_not_some, bound, same_found}
+use Rattle.forms.proofs.Texts.{bound}
 use Rattle.forms.proofs.Numbers.{number_sound, number_complete}
 use Rattle.forms.proofs.Places.{spelled_last, last_word_reads, place_reads}
 use Rattle.forms.proofs.Registers.{register_reads}
@@ -24,7 +26,7 @@ number_makes make = record { sound = found; complete = finds }
     found s rest form e =
         let one = bound (number_of s) (λ n. Some (make n.0, n.1)) (form, rest) e in
         let n = one.0.0 in
-        let same = same_found (make n) form one.0.1 rest one.2 in
+        let same = some_pair_parts (make n) form one.0.1 rest one.2 in
         let told = number_sound s one.0.1 n one.1 in
         (n, same.0, told.0, told.1 ∙ ap (λ t. decimal n ++ (41 ∷ t)) same.1 ∙ sym (append_assoc (decimal n) (codes ")") rest))
 
@@ -90,7 +92,11 @@ form_complete Wake rest h = refl
 
 ended_sound : (f form : Form) (rest : List ℕ) → ended f rest ≡ Some form → (f ≡ form) × (rest ≡ [])
 ended_sound f form [] e = (cc, refl)
-ended_sound f form (c ∷ rest) e = none_is_not_some form e
+ended_sound f form (c ∷ rest) e = absurd (none-some form e)
+
+pub ended_is : (f : Form) (rest : List ℕ) → ended f rest ≡ cond (eqb (length rest) 0) (Some f) None
+ended_is f [] = refl
+ended_is f (c ∷ rest) = sym (cond-false _ _ _ (ne_eqb (suc (length rest)) 0 (λ e. omega arith)))
 
 pub exact_reading : (line : List ℕ) (r : Option Form) → r ≡ form_of line → Exact line r
 unfolding form_of

@@ -1,11 +1,12 @@
 -- Numbers: read exactly where their decimal digits stand, without a leading zero.
 use Rattle.std.proofs.Common.{◌≡◌, ℕ, zero, suc, ◌+◌, ◌*◌, ◌/◌, ◌%◌, ◌<◌, ◌≤◌, false, eqb, ltb, List, [], ◌∷◌, ◌++◌, Some, codes, decimal, sym, ap, ◌∙◌, ⊎_elim, append_assoc, arith}
+use Rattle.std.proofs.lemmas.Option.{none-some, some_pair_parts}
 use Rattle.std.proofs.lemmas.Fmt.{decimal_digit, decimal_step, decimal_by_steps}
 use Rattle.std.proofs.lemmas.Bool.{eqb-true, ne_eqb, ltb-true, lt-ltb}
 use Rattle.std.proofs.lemmas.Bool.Decides.{nat_tests}
 use Rattle.forms.specs.Scanning.{bind, skipped, decimal_digit_of, with_digit, more_digits_of, number_from, number_of}
 use Rattle.forms.specs.Spelling.{NumberFits}
-use Rattle.forms.proofs.Texts.{none_is_not_some, bound, guarded, either_arm, same_found, skipped_sound}
+use Rattle.forms.proofs.Texts.{bound, guarded, either_arm, skipped_sound}
 
 digit_sound : (c d : ℕ) → decimal_digit_of c ≡ Some d → (d < 10) × (c ≡ 48 + d)
 digit_sound c d e = grind (arith, nat_tests)
@@ -22,12 +23,12 @@ one_digit_more v d some fits h =
 
 -- digits after those of v make up the digits of the number that was read
 more_sound : (s : List ℕ) (v n : ℕ) (rest : List ℕ) → 0 < v → v < 256 → more_digits_of v s ≡ Some (n, rest) → (n < 256) × (decimal v ++ s ≡ decimal n ++ (41 ∷ rest))
-more_sound [] v n rest some fits e = none_is_not_some (n, rest) e
+more_sound [] v n rest some fits e = absurd (none-some (n, rest) e)
 more_sound (c ∷ s) v n rest some fits e =
     ⊎_elim
     (λ closed.
     let is = eqb-true c 41 closed.0 in
-    let same = same_found v n s rest closed.1 in
+    let same = some_pair_parts v n s rest closed.1 in
     (omega (arith, same.0), cc (same.0, same.1)))
     (λ going.
     let digit = bound (decimal_digit_of c) (λ d. bind (with_digit v d) (λ w. more_digits_of w s)) (n, rest) going.1 in
@@ -45,7 +46,7 @@ more_sound (c ∷ s) v n rest some fits e =
 number_from_sound : (d : ℕ) (s : List ℕ) (n : ℕ) (rest : List ℕ) → d < 10 → number_from d s ≡ Some (n, rest) → (n < 256) × ((48 + d) ∷ s ≡ decimal n ++ (41 ∷ rest))
 number_from_sound zero s n rest h e =
     let closed = bound (skipped (codes ")") s) (λ t. Some (0, t)) (n, rest) e in
-    let same = same_found 0 n closed.0 rest closed.2 in
+    let same = some_pair_parts 0 n closed.0 rest closed.2 in
     let left = skipped_sound (codes ")") s closed.0 closed.1 in
     let spelled : decimal n ≡ 48 ∷ [] = ap decimal (sym same.0) ∙ decimal_digit 0 h in
     (omega (arith, same.0), rw spelled (ap (λ t. 48 ∷ t) (left ∙ ap (λ t. 41 ∷ t) same.1)))
@@ -54,7 +55,7 @@ number_from_sound (suc v) s n rest h e =
     (told.0, rw (decimal_digit (suc v) h) at told.1)
 
 pub number_sound : (s rest : List ℕ) (n : ℕ) → number_of s ≡ Some (n, rest) → NumberFits n × (s ≡ decimal n ++ (41 ∷ rest))
-number_sound [] rest n e = none_is_not_some (n, rest) e
+number_sound [] rest n e = absurd (none-some (n, rest) e)
 number_sound (c ∷ s) rest n e =
     let digit = bound (decimal_digit_of c) (λ d. number_from d s) (n, rest) e in
     let told = digit_sound c digit.0 digit.1 in

@@ -1,5 +1,6 @@
 -- Places are read exactly.
 use Rattle.std.proofs.Common.{◌≡◌, ℕ, List, [], ◌∷◌, ◌++◌, Some, codes, sym, refl, ap, ◌∙◌, subst, arith}
+use Rattle.std.proofs.lemmas.Option.{none-some, some_pair_parts}
 use Rattle.std.proofs.lemmas.Bool.Decides.{nat_tests}
 use Rattle.memory.specs.declared.place.Place.{Place}
 use Rattle.memory.specs.declared.place.Space.{Space}
@@ -7,7 +8,7 @@ use Rattle.memory.specs.declared.place.Space.TheVariants.{X, Y, P}
 use Rattle.forms.specs.Reading.{lettered, space_of, placed, place_of}
 use Rattle.forms.specs.Scanning.{skipped, pair_of, closed_of, word_of, last_word_of}
 use Rattle.forms.specs.Spelling.{letter, spelled_word, spelled_place, WordFits}
-use Rattle.forms.proofs.Texts.{none_is_not_some, bound, same_found}
+use Rattle.forms.proofs.Texts.{bound}
 use Rattle.forms.proofs.Words.{word_sound, word_complete}
 use Rattle.forms.proofs.Sequences.{Reads, skipped_then, closed_makes, pair_makes, regrouped}
 
@@ -33,10 +34,10 @@ letter_sound c Y e = grind (arith, nat_tests)
 letter_sound c P e = grind (arith, nat_tests)
 
 space_sound : (s rest : List ℕ) (a : Space) → space_of s ≡ Some (a, rest) → Unit {0} × (s ≡ letter a ++ rest)
-space_sound [] rest a e = none_is_not_some (a, rest) e
+space_sound [] rest a e = absurd (none-some (a, rest) e)
 space_sound (c ∷ s) rest a e =
     let one = bound (lettered c) (λ b. Some (b, s)) (a, rest) e in
-    let same = same_found one.0 a s rest one.2 in
+    let same = some_pair_parts one.0 a s rest one.2 in
     let is = letter_sound c one.0 one.1 in
     (tt, ap (λ l. l ++ s) (is ∙ ap letter same.0) ∙ ap (λ t. letter a ++ t) same.1)
 

@@ -1,5 +1,6 @@
 -- Registers are read exactly.
 use Rattle.std.proofs.Common.{◌≡◌, ℕ, suc, ◌≤◌, true, false, eqb, ltb, List, [], ◌∷◌, ◌++◌, length, get_or, take, drop, Some, codes, decimal, Option, sym, refl, ap, ◌∙◌, subst, ⊎_elim, append_assoc, arith, take-append-drop, length-take-le}
+use Rattle.std.proofs.lemmas.Option.{none-some, some_pair_parts}
 use Rattle.std.proofs.lemmas.Slice.Eq.{HasBytesAt, text_from_reads}
 use Rattle.std.proofs.lemmas.Bool.{eqb-true, ltb-false, le-ltb, and_parts}
 use Rattle.registers.specs.declared.register.Register.{Register}
@@ -7,7 +8,7 @@ use Rattle.registers.specs.declared.register.Register.TheVariants.{Dsr, Ddr, Dco
 use Rattle.forms.specs.Reading.{reads, Name, named, names, numbered_of, registers, register_of}
 use Rattle.forms.specs.Scanning.{bind, skipped, number_of}
 use Rattle.forms.specs.Spelling.{spelled_register, RegisterFits, NumberFits}
-use Rattle.forms.proofs.Texts.{none_is_not_some, bound, guarded_not, either_arm, same_found}
+use Rattle.forms.proofs.Texts.{bound, guarded_not, either_arm}
 use Rattle.forms.proofs.Numbers.{number_sound, number_complete}
 use Rattle.forms.proofs.Sequences.{Reads, skipped_then, bare_way, first_way_sound}
 
@@ -43,7 +44,7 @@ names_proper = (
 )
 
 named_sound : (all : List Name) → AllProper all → (s : List ℕ) (n : ℕ) (r : Register) → length s ≡ 3 → NumberFits n → named all s n ≡ Some r → RegisterFits r × (spelled_register r ≡ codes "(" ++ s ++ codes " " ++ decimal n ++ codes ")")
-named_sound [] proper s n r long h e = none_is_not_some r e
+named_sound [] proper s n r long h e = absurd (none-some r e)
 named_sound (name ∷ more) proper s n r long h e =
     ⊎_elim
     (λ here.
@@ -73,12 +74,12 @@ numbered_sound s rest r e =
     let n = number.0.0 in
     let left = number.0.1 in
     let name = bound (named names (take 3 s) n) (λ q. Some (q, left)) (r, rest) number.2 in
-    let same = same_found name.0 r left rest name.2 in
+    let same = some_pair_parts name.0 r left rest name.2 in
     let long : 3 ≤ length s = ltb-false (length s) 3 three.0 in
     let read = number_sound gap.0 left n number.1 in
     let told = named_sound names names_proper (take 3 s) n name.0 (length-take-le 3 s long) read.0 name.1 in
     let follows : drop 3 s ≡ codes " " ++ (decimal n ++ (41 ∷ left)) = gap.1 ∙ ap (λ t. codes " " ++ t) read.1 in
-    (subst RegisterFits same.0 told.0, numbered_whole s (take 3 s) (drop 3 s) left rest n name.0 r (take-append-drop 3 s) follows told.1 same.0 same.1)
+    (subst RegisterFits {x = name.0} same.0 told.0, numbered_whole s (take 3 s) (drop 3 s) left rest n name.0 r (take-append-drop 3 s) follows told.1 same.0 same.1)
 
 -- three letters, a space and a number in range are read as the letters say
 numbered_complete : (a b c n : ℕ) (rest : List ℕ) → NumberFits n → numbered_of (a ∷ b ∷ c ∷ 32 ∷ (decimal n ++ codes ")" ++ rest)) ≡ bind (named names (a ∷ b ∷ c ∷ []) n) (λ r. Some (r, rest))

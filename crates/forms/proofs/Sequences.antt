@@ -1,7 +1,8 @@
 -- Readers one after another: exact where their parts are.
 use Rattle.std.proofs.Common.{◌≡◌, ℕ, ◌⊎◌, List, [], ◌∷◌, ◌++◌, Some, None, Option, sym, refl, ap, ◌∙◌, subst, inl, inr, ⊎_elim, append_assoc}
+use Rattle.std.proofs.lemmas.Option.{none-some, some_pair_parts}
 use Rattle.forms.specs.Scanning.{bind, skipped, pair_of, closed_of, Way, either, first_way}
-use Rattle.forms.proofs.Texts.{none_is_not_some, bound, same_found, skipped_sound, skipped_front}
+use Rattle.forms.proofs.Texts.{bound, skipped_sound, skipped_front}
 
 -- the reader f finds exactly what is in range and stands, as it is spelled, at the front of the line
 pub record Reads {A : Type 0} (f : List ℕ → Option (A × List ℕ)) (spell : A → List ℕ) (fits : A → Type 0) : Type 0 where
@@ -28,7 +29,7 @@ module _ {A C : Type 0} {f : List ℕ → Option (A × List ℕ)} {p : A → Lis
           let one = bound (f s) k (c, rest) e in
           let a = one.0.0 in
           let end = skipped_then text one.0.1 (λ t. Some (make a, t)) (c, rest) one.2 in
-          let same = same_found (make a) c end.0 rest end.2 in
+          let same = some_pair_parts (make a) c end.0 rest end.2 in
           let told = reads.sound s one.0.1 a one.1 in
           (a, same.0, told.0, told.1 ∙ ap (λ t. p a ++ t) (end.1 ∙ ap (λ t. text ++ t) same.1) ∙ sym (append_assoc (p a) text rest))
 
@@ -51,7 +52,7 @@ module _ {A B C : Type 0} {f : List ℕ → Option (A × List ℕ)} {p : A → L
           let a = one.0.0 in
           let two = bound (g one.0.1) (join a) (c, rest) one.2 in
           let b = two.0.0 in
-          let same = same_found (make a b) c two.0.1 rest two.2 in
+          let same = some_pair_parts (make a b) c two.0.1 rest two.2 in
           let left = first.sound s one.0.1 a one.1 in
           let right = second.sound one.0.1 two.0.1 b two.1 in
           ((a, b), same.0, (left.0, right.0), left.1 ∙ ap (λ t. p a ++ t) (right.1 ∙ ap (λ t. q b ++ t) same.1) ∙ sym (append_assoc (p a) (q b) rest))
@@ -83,7 +84,7 @@ way_sound {C = C} {make = make} {p = p} makes text spell fits in-range spells s 
 -- a way whose text is all that it reads
 pub bare_way : {A : Type 0} (spell : A → List ℕ) (fits : A → Type 0) (a : A) → fits a → WaySound spell fits (record { text = spell a; next = λ rest. Some (a, rest) })
 bare_way spell fits a h s rest b e =
-    let same = same_found a b s rest e in
+    let same = some_pair_parts a b s rest e in
     (subst fits same.0 h, ap (λ q. spell q ++ s) same.0 ∙ ap (λ t. spell b ++ t) same.1)
 
 abbrev pub WaysSound : {A : Type 0} → (A → List ℕ) → (A → Type 0) → List (Way A) → Type 0
@@ -95,7 +96,7 @@ either_of None k other b e = inr e
 either_of (Some rest) k other b e = inl (rest, refl, e)
 
 pub first_way_sound : {A : Type 0} (spell : A → List ℕ) (fits : A → Type 0) (ways : List (Way A)) → WaysSound spell fits ways → (s rest : List ℕ) (a : A) → first_way ways s ≡ Some (a, rest) → fits a × (s ≡ spell a ++ rest)
-first_way_sound spell fits [] h s rest a e = none_is_not_some (a, rest) e
+first_way_sound spell fits [] h s rest a e = absurd (none-some (a, rest) e)
 first_way_sound spell fits (way ∷ ways) h s rest a e =
     ⊎_elim
     (λ here.

@@ -1,24 +1,17 @@
 -- A text at the front of a line: skipped exactly if it stands there.
-use Rattle.std.proofs.Common.{◌≡◌, ℕ, Bool, true, false, cond, eqb, ◌⊎◌, List, [], ◌∷◌, ◌++◌, Some, None, Option, sym, refl, ap, inl, inr, arith, Bor, MatchOption}
+use Rattle.std.proofs.Common.{◌≡◌, ℕ, Bool, true, false, cond, eqb, ◌⊎◌, List, [], ◌∷◌, ◌++◌, Some, None, Option, sym, refl, inl, inr, Bor, MatchOption}
+use Rattle.std.proofs.lemmas.Option.{none-some}
 use Rattle.std.proofs.lemmas.Bool.{eqb-true, eq-eqb}
 use Rattle.std.specs.Option.{option_map}
 use Rattle.forms.specs.Scanning.{skipped, bind}
 
--- nothing found is not something found
-pub none_is_not_some : {A : Type 0} {B : Type 0} (a : A) → None ≡ Some a → B
-none_is_not_some a e = let z : ◌≡◌ {A = ℕ} 0 1 = cc in absurd (omega arith)
-
--- what was found, and the rest, are what they are
-pub same_found : {A : Type 0} (a b : A) (s t : List ℕ) → ◌≡◌ {A = Option (A × List ℕ)} (Some (a, s)) (Some (b, t)) → (a ≡ b) × (s ≡ t)
-same_found {A} a b s t e = let p : ◌≡◌ {A = A × List ℕ} (a, s) (b, t) = cc in (ap (λ (x : A × List ℕ). x.0) p, ap (λ (x : A × List ℕ). x.1) p)
-
 -- where a test with nothing in its other arm found something, the test held
 pub guarded : {A : Type 0} (b : Bool) (o : Option A) (a : A) → cond b o None ≡ Some a → (b ≡ true) × (o ≡ Some a)
 guarded true o a e = (refl, e)
-guarded false o a e = none_is_not_some a e
+guarded false o a e = absurd (none-some a e)
 
 pub guarded_not : {A : Type 0} (b : Bool) (o : Option A) (a : A) → cond b None o ≡ Some a → (b ≡ false) × (o ≡ Some a)
-guarded_not true o a e = none_is_not_some a e
+guarded_not true o a e = absurd (none-some a e)
 guarded_not false o a e = (refl, e)
 
 -- which arm of a test was taken
@@ -28,7 +21,7 @@ either_arm false x y z e = inr (refl, e)
 
 -- where a `?` went on, there was something to go on with
 pub bound : {A B : Type 0} (o : Option A) (k : A → Option B) (b : B) → bind o k ≡ Some b → (a : A) × (o ≡ Some a) × (k a ≡ Some b)
-bound None k b e = none_is_not_some b e
+bound None k b e = absurd (none-some b e)
 bound (Some a) k b e = (a, refl, e)
 
 pub skipped_front : (t s : List ℕ) → skipped t (t ++ s) ≡ Some s
@@ -39,7 +32,7 @@ skipped_front (c ∷ t) s = rw (eq-eqb c c refl) (skipped_front t s)
 pub skipped_sound : (t s rest : List ℕ) → skipped t s ≡ Some rest → s ≡ t ++ rest
 unfolding skipped
 skipped_sound [] s rest e = cc
-skipped_sound (c ∷ t) [] rest e = none_is_not_some rest e
+skipped_sound (c ∷ t) [] rest e = absurd (none-some rest e)
 skipped_sound (c ∷ t) (b ∷ s) rest e =
     let h = guarded (eqb c b) (skipped t s) rest e in
     cc (eqb-true c b h.0, skipped_sound t s rest h.1)

@@ -1,5 +1,6 @@
 -- Words: the steps of reading hexadecimal digits.
 use Rattle.std.proofs.Common.{◌≡◌, ℕ, zero, suc, ◌+◌, ◌*◌, ◌/◌, ◌%◌, ◌^◌, ◌<◌, ◌≤◌, true, false, ltb, List, [], ◌∷◌, ◌++◌, length, take, drop, Some, sym, refl, ap, ◌∙◌, append_assoc, append-nil, pow-suc, arith, take-append-drop, length-take-le}
+use Rattle.std.proofs.lemmas.Option.{some_pair_parts}
 use native.Mathlib.Nat.{pow-le-pow_right}
 use Rattle.std.proofs.lemmas.Bool.Decides.{nat_tests}
 use Rattle.std.proofs.lemmas.Bool.{ltb-false, le-ltb}
@@ -7,7 +8,7 @@ use Rattle.std.specs.Fmt.{digit_glyph}
 use Rattle.forms.specs.Numerals.{hexadecimal}
 use Rattle.forms.specs.Spelling.{spelled_word, WordFits}
 use Rattle.forms.specs.Scanning.{bind, hex_digit_of, hex_value, word_of}
-use Rattle.forms.proofs.Texts.{bound, guarded_not, same_found}
+use Rattle.forms.proofs.Texts.{bound, guarded_not}
 
 -- fewer than six digits leave room for one more
 pub room : (i : ℕ) → i < 6 → 16 ^ i ≤ 2 ^ 20
@@ -55,7 +56,7 @@ pub word_sound : (s rest : List ℕ) (n : ℕ) → word_of s ≡ Some (n, rest) 
 word_sound s rest n e =
     let six = guarded_not (ltb (length s) 6) (bind (hex_value 0 (take 6 s)) (λ w. Some (w, drop 6 s))) (n, rest) e in
     let read = bound (hex_value 0 (take 6 s)) (λ w. Some (w, drop 6 s)) (n, rest) six.1 in
-    let same = same_found read.0 n (drop 6 s) rest read.2 in
+    let same = some_pair_parts read.0 n (drop 6 s) rest read.2 in
     let long : 6 ≤ length s = ltb-false (length s) 6 six.0 in
     let wide : 6 ≡ length (take 6 s) + 0 = omega (arith, length-take-le 6 s long) in
     let told = hex_value_sound (take 6 s) 0 6 0 n wide (omega arith) (cc (read.1, same.0)) in

@@ -153,7 +153,7 @@ fn take_form(s: &[u8]) -> Option<(Form, &[u8])>
 }
 
 // The form that the line spells, if it spells one.
-#[tactic(auto, using(crate::proofs::Forms::exact_reading), unfolding(crate::specs::Reading::form_of))]
+#[tactic(auto, using(crate::proofs::Forms::exact_reading, crate::proofs::Forms::ended_is), unfolding(crate::specs::Reading::form_of))]
 pub fn read(line: &[u8]) -> Option<Form>
     ensures value { result ≡ form_of line.now }
     ensures exact { Exact line.now result }

@@ -33,7 +33,7 @@ fn hex_digit(c: u8) -> Option<u8>
     }
 }
 
-// The value of six hexadecimal digits.
+// The value of six hexadecimal digits. A loop: nothing would bound the word in a `try_fold`.
 #[tactic(auto, using(crate::proofs::Words::room))]
 fn hex_value(digits: &[u8; 6]) -> Option<u32>
     ensures value { result ≡ hex_value 0 digits.now }

@@ -86,3 +86,5 @@ cut_at_end input some e =
     let past = ltb-false (position_or_len feed input) (length input) (nowhere _ (position_or_len feed input) e) in
     lines_to_end input some (λ k h. eqb-false _ _ (fails_before_first feed input k 0 (omega arith)))
     ∙ ap (λ found. input ∷ found) (sym lines_none)
+
+pub ruleset cuts = (lines_of_empty, cut_at_feed, cut_at_end)

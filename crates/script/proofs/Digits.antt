@@ -1,5 +1,6 @@
 -- What `{:06X}` writes: six hexadecimal digits. Assumes nothing.
-use Rattle.std.proofs.Common.{◌≡◌, ℕ, zero, suc, ◌+◌, ◌-◌, ◌*◌, ◌/◌, ◌%◌, ◌^◌, ◌<◌, true, false, List, [], ◌∷◌, ◌++◌, length, replicate, Some, sym, refl, ap, ◌∙◌, ⊎_elim, append_assoc, append-nil, arith, pow-suc}
+use Rattle.std.proofs.Common.{◌≡◌, ℕ, zero, suc, ◌+◌, ◌-◌, ◌*◌, ◌/◌, ◌%◌, ◌^◌, ◌<◌, true, false, List, [], ◌∷◌, ◌++◌, length, replicate, Some, sym, refl, ap, ◌∙◌, ⊎_elim, append_assoc, append-nil, add-one, arith, pow-suc}
+use Rattle.std.proofs.lemmas.List.{replicate_more}
 use Rattle.std.proofs.lemmas.Bool.{cases_lt, eq-eqb, ne_eqb, cond-true, cond-false}
 use Rattle.std.proofs.lemmas.Nat.{field_of, mod-pow-add, mod_low}
 use Rattle.std.specs.Fmt.{digit_glyph, digits_onto, digits, padded_integral, format_spec, char_count, digits_output, styled_digits_output}
@@ -10,17 +11,13 @@ use Rattle.forms.specs.Numerals.{hexadecimal}
 abbrev zeros : ℕ → List ℕ
 zeros k = replicate k 48
 
-zero_more : (k : ℕ) → zeros k ++ (48 ∷ []) ≡ zeros (suc k)
-zero_more zero = refl
-zero_more (suc k) = ap (λ t. 48 ∷ t) (zero_more k)
-
 -- a digit alone, after zeros
 one_digit : (k n : ℕ) → n < 16 → hexadecimal (suc k) n ≡ zeros k ++ (digit_glyph true n ∷ [])
 one_digit zero n h = let e : n % 16 ≡ n = omega arith in ap (λ d. digit_glyph true d ∷ []) e
 one_digit (suc k) n h =
     let front : n / 16 ≡ 0 = omega arith in
     let last : n % 16 ≡ n = omega arith in
-    let before = ap (hexadecimal (suc k)) front ∙ one_digit k 0 (omega arith) ∙ zero_more k in
+    let before = ap (hexadecimal (suc k)) front ∙ one_digit k 0 (omega arith) ∙ replicate_more k 48 ∙ ap zeros (add-one k) in
     ap (λ t. t ++ (digit_glyph true (n % 16) ∷ [])) before ∙ ap (λ d. zeros (suc k) ++ (digit_glyph true d ∷ [])) last
 
 onto_last : (i n : ℕ) (acc : List ℕ) → n / 16 ≡ 0 → digits_onto (suc i) 16 true n acc ≡ digit_glyph true (n % 16) ∷ acc

@@ -41,7 +41,7 @@ fn end_of_line(input: &[u8]) -> Option<usize>
 }
 
 // The first line without its line feed, and what follows it; nothing where there is no line.
-#[tactic(auto, using(crate::proofs::Cutting::lines_of_empty, crate::proofs::Cutting::cut_at_feed, crate::proofs::Cutting::cut_at_end))]
+#[tactic(auto, using(crate::proofs::Cutting::cuts))]
 pub fn next_line(input: &[u8]) -> Option<(&[u8], &[u8])>
     ensures value { MatchOption result (lines input.now ≡ []) (λ p. lines input.now ≡ p.0.now ∷ lines p.1.now) }
     ensures shorter { IfSome result (λ p. length p.1.now < length input.now) }

@@ -91,11 +91,8 @@ pub fn written(heap: Global, answers: &[Answer]) -> Result<String, AllocError>
     ensures value { IfOk result (λ s. string_bytes s ≡ written_from 1 answers.now) }
 {
     let mut text = String::new(heap);
-    for (answer, line) in answers.iter().zip(1..) {
-        let answered = Numbered {
-            line,
-            answer: *answer,
-        };
+    for (answer, line) in answers.iter().copied().zip(1..) {
+        let answered = Numbered { line, answer };
         writeln!(text, "{answered}")?;
     }
     Ok(text)
