@@ -1,4 +1,4 @@
-// The controller, awake and stopped. Both hold the table of channels and no memory.
+// The controller, awake and stopped. Both hold the table of channels and no memory. Two types and not one with a parameter: they have no call in common.
 use crate::bank::Bank;
 
 pub mod calls;

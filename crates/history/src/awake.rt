@@ -82,6 +82,7 @@ impl Awake {
             mut controller,
             mut services,
         } = self;
+        // No `?`: the device goes back with either answer.
         let answer = match controller.begin(channel) {
             Ok(service) => {
                 let place = &mut services[channel as usize];
@@ -119,6 +120,7 @@ impl Awake {
             mut services,
         } = self;
         let place = &mut services[channel.number() as usize];
+        // No `?`: a service that was handed back could not be let go.
         let answer = match place.take() {
             None => Err(Refusal::NoService),
             Some(service) => match controller.finish(service) {

@@ -39,6 +39,8 @@ pub struct Counted {
 }
 
 impl Fields {
+    // The three below go by the name of what ends, each by the one before it.
+
     // A word that is moved at this count is the last of its line.
     pub fn ends_line(self) -> bool
         ensures value { result ≡ ends_line self }

@@ -26,6 +26,7 @@ impl Controller {
         }
     }
 
+    // A register and its value are no type of their own: a set is all that takes the two.
     pub fn set(&mut self, register: Register, value: u32) -> Result<(), Refusal>
         ensures value { result ≡ set_answer (state self.old) register value }
         ensures after { state self.new ≡ after_set (state self.old) register value }
@@ -57,7 +58,7 @@ impl Controller {
         Ok(Service::new(channel))
     }
 
-    // Takes a service back, or hands it back where this controller has no such service open.
+    // Takes a service back, or hands it back where this controller has no such service open. The service goes one way or the other, so no `?`.
     pub fn finish(&mut self, service: Service) -> Result<(), HandedBack>
         ensures value { Returns (state self.old) service result }
         ensures after { state self.new ≡ after_return (state self.old) service.channel }
