@@ -18,7 +18,7 @@ use dma::register::{Masks, Register};
 use dma::service::Service;
 use memory::refusal::Refusal;
 
-// A controller, awake or stopped.
+// A controller, awake or stopped, and the state that it is in.
 pub trait Held {
     ghost held: { Self → State };
 }
