@@ -8,6 +8,7 @@ use std::marker::Model;
 #[cfg(test)]
 mod tests;
 
+// Below 6. Clauses read it as its number.
 #[derive(Clone, Copy, PartialEq, Eq, Debug)]
 pub struct Channel {
     number: u8,

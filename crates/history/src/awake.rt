@@ -19,7 +19,7 @@ use dma::service::Service;
 use memory::refusal::Refusal;
 use registers::register::Register;
 
-// A controller, awake or stopped.
+// A controller, awake or stopped, and the state that it is in.
 pub trait Held {
     ghost held: { Self → State };
 }
