@@ -20,12 +20,14 @@ one_digit (suc k) n h =
     let before = ap (hexadecimal (suc k)) front ∙ one_digit k 0 (omega arith) ∙ replicate_more k 48 ∙ ap zeros (add-one k) in
     ap (λ t. t ++ (digit_glyph true (n % 16) ∷ [])) before ∙ ap (λ d. zeros (suc k) ++ (digit_glyph true d ∷ [])) last
 
+-- a digit is put before those after it: the last step, and any other
 onto_last : (i n : ℕ) (acc : List ℕ) → n / 16 ≡ 0 → digits_onto (suc i) 16 true n acc ≡ digit_glyph true (n % 16) ∷ acc
 onto_last i n acc e = cond-true _ _ _ (eq-eqb (n / 16) 0 e)
 
 onto_more : (i n : ℕ) (acc : List ℕ) → (n / 16 ≡ 0 → ⊥) → digits_onto (suc i) 16 true n acc ≡ digits_onto i 16 true (n / 16) (digit_glyph true (n % 16) ∷ acc)
 onto_more i n acc ne = cond-false _ _ _ (ne_eqb (n / 16) 0 ne)
 
+-- how many digits are wanting to k
 abbrev short : ℕ → List ℕ → List ℕ → ℕ
 short k acc ds = k + length acc - length ds
 
@@ -57,7 +59,8 @@ zeros_and_digits (suc k) (suc i) n acc room h =
     ∙ sym (append_assoc (hexadecimal (suc k) (n / 16)) (digit ∷ []) acc))
     (cases_lt n 16)
 
-pub low_digits : (k n : ℕ) → hexadecimal k (n % 2 ^ (4 * k)) ≡ hexadecimal k n
+-- the lowest digits of a number are those of what is left of it below them
+low_digits : (k n : ℕ) → hexadecimal k (n % 2 ^ (4 * k)) ≡ hexadecimal k n
 low_digits zero n = refl
 low_digits (suc k) n =
     let wide : 4 * suc k ≡ 4 * k + 4 = omega arith in
@@ -75,7 +78,7 @@ filled : (ds : List ℕ) → padded_integral (format_spec 32 0 4 6 (2 ^ 64 - 1))
 unfolding padded_integral char_count
 filled ds = simp (append-nil, sub-zero)
 
-pub six_digits : (n : ℕ) → padded_integral (format_spec 32 0 4 6 (2 ^ 64 - 1)) false [] (digits 16 true (n % 2 ^ 24)) ≡ hexadecimal 6 n
+six_digits : (n : ℕ) → padded_integral (format_spec 32 0 4 6 (2 ^ 64 - 1)) false [] (digits 16 true (n % 2 ^ 24)) ≡ hexadecimal 6 n
 six_digits n =
     let m = n % 2 ^ 24 in
     filled (digits 16 true m) ∙ ap (λ ds. zeros (6 - length ds) ++ ds) (digits_are m)

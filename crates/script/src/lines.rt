@@ -6,7 +6,7 @@ ghost use Rattle.script.specs.Lines.{lines, lines_left};
 const LINE_FEED: u8 = b'\n';
 
 // The lines of an input that are still to come.
-#[derive(Clone, Copy)]
+#[derive(Drop)]
 pub struct Lines<'a> {
     rest: &'a [u8],
 }
