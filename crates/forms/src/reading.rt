@@ -2,7 +2,7 @@
 ghost use Rattle.std.specs.Prelude.{◌≡◌, codes, MatchOption, IsSomeAnd};
 ghost use Rattle.forms.specs.declared.form.Form.TheVariants.{Raise, Serve};
 ghost use Rattle.forms.specs.Reading.{form_of, forms, bare_forms, space_of, place_of, named, names, numbered_of, register_of, store_of, load_of, set_of, get_of, number_as};
-ghost use Rattle.forms.specs.Scanning.{seen, first_way, bind, skipped, last_word_of};
+ghost use Rattle.forms.specs.Scanning.{seen, first_way, bind, skipped, last_word_of, number_of};
 ghost use Rattle.forms.specs.Spelling.{Exact};
 
 use crate::form::Form;
@@ -86,6 +86,15 @@ fn closed<T: Copy, F: FnOnce(T) -> Form>(read: Option<(T, &[u8])>, form: F) -> O
     Some((form(value), skip(s, b")")?))
 }
 
+// A number, and the parenthesis that closes it, as the form that it makes.
+fn with_number<F: FnOnce(u8) -> Form>(s: &[u8], form: F) -> Option<(Form, &[u8])>
+    requires { F.IsAlwaysCallable form }
+    ensures value { MatchOption (number_of s.now) (result ≡ None) (λ n. IsSomeAnd result (λ p. F.post form n.0 p.0 × (p.1.now ≡ n.1))) }
+{
+    let (number, s) = take_number(s)?;
+    Some((form(number), s))
+}
+
 // What follows `(store `.
 fn take_store(s: &[u8]) -> Option<(Form, &[u8])>
     ensures value { seen result ≡ store_of s.now }
@@ -118,14 +127,14 @@ fn take_get(s: &[u8]) -> Option<(Form, &[u8])>
 fn take_raise(s: &[u8]) -> Option<(Form, &[u8])>
     ensures value { seen result ≡ number_as Raise s.now }
 {
-    take_number(s).map(|(source, s)| (Form::Raise(source), s))
+    with_number(s, Form::Raise)
 }
 
 // What follows `(serve `.
 fn take_serve(s: &[u8]) -> Option<(Form, &[u8])>
     ensures value { seen result ≡ number_as Serve s.now }
 {
-    take_number(s).map(|(channel, s)| (Form::Serve(channel), s))
+    with_number(s, Form::Serve)
 }
 
 // A form that is one word.
