@@ -63,7 +63,7 @@ show("1c a number for a kind, or a test by bool that its caller turns into a ref
 
 groups = collections.defaultdict(list)
 for p, _, _, _, c in ALL:
-    if len(shape(c)) > 6 and not re.fullmatch(r"[a.    if len(shape(c)) > 12:]*\([a,.    if len(shape(c)) > 12:]*\)", shape(c)):
+    if len(shape(c)) > 6 and not re.fullmatch(r"[a.:&]*\([a,.:&]*\)", shape(c)):
         groups[shape(c)].append(p)
 show("2a functions that are the same but for names and numbers", [" = ".join(g) for g in groups.values() if len(g) > 1])
 same = collections.defaultdict(list)

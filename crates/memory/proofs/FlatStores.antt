@@ -1,7 +1,7 @@
 -- One word put into the list of a flat memory.
-use Rattle.std.proofs.Common.{◌≡◌, ℕ, ◌+◌, ◌%◌, ◌<◌, ◌≤◌, true, false, cond, ◌&&◌, eqb, ◌≢◌, List, length, set, Ok, vec_items, sym, ap, ◌∙◌, subst, ⊎_elim, arith}
+use Rattle.std.proofs.Common.{◌≡◌, ℕ, ◌+◌, ◌%◌, ◌<◌, ◌≤◌, true, false, cond, ◌&&◌, eqb, ◌≢◌, List, length, set, Ok, vec_items, sym, ap, ◌∙◌, subst, arith}
 use Rattle.std.proofs.lemmas.List.{get_or-set_same, get_or-set_other}
-use Rattle.std.proofs.lemmas.Bool.{ltb-true, lt-ltb, both_ways, cases_Bool, cond-true, cond-false, cond_both}
+use Rattle.std.proofs.lemmas.Bool.{ltb-true, lt-ltb, both_ways, cond-true, cond-false, cond_both}
 use Rattle.std.proofs.lemmas.Bool.Decides.{nat_tests}
 use Rattle.memory.specs.declared.flat.Flat.{Flat}
 use Rattle.memory.specs.declared.flat.FlatSizes.{FlatSizes}
@@ -12,7 +12,7 @@ use Rattle.memory.specs.declared.place.Space.{Space}
 use Rattle.memory.specs.declared.place.Space.TheVariants.{X, Y, P}
 use Rattle.memory.specs.Flat.{size_of, start_of, covers, flat_owner, flat_kind, flat_word, flat_of, flat_meaning}
 use Rattle.memory.specs.Meaning.{Meaning, same_space, same_place, may_store, put, after_store}
-use Rattle.memory.proofs.Stores.{same_place_is, store_leaves, stored_word_fits, stored_place_is_plain}
+use Rattle.memory.proofs.Stores.{word_put, store_leaves, stored_word_fits, stored_place_is_plain}
 
 pub plain_is_covered : (z : FlatSizes) (p : Place) → flat_kind z p ≡ Plain → p.address < size_of z p.space
 plain_is_covered z p h = grind (arith, nat_tests)
@@ -57,11 +57,7 @@ module _ (words : List ℕ) (z : FlatSizes) (room : z.x + z.y + z.p ≤ length w
 
   pub word_after : (q : Place) → flat_word (set words (start_of z p.space + p.address) w) z q ≡ cond (same_place p q) w (flat_word words z q)
   unfolding after
-  word_after q =
-      ⊎_elim
-      (λ same. subst (λ r. flat_word after z r ≡ w) (same_place_is p q same) word_there ∙ sym (cond-true (same_place p q) _ _ same))
-      (λ other. word_elsewhere q other ∙ sym (cond-false (same_place p q) _ _ other))
-      (cases_Bool (same_place p q))
+  word_after = word_put (flat_word words z) (flat_word after z) p w word_there word_elsewhere
 
   pub flat_after : flat_of (set words (start_of z p.space + p.address) w) z ≡ put (flat_of words z) p w
   flat_after = λ i. record { kind = flat_kind z; word = λ q. word_after q i; owner = λ q. flat_owner }

@@ -1,7 +1,7 @@
 -- Three bytes put into the list of a packed memory.
 use Rattle.std.proofs.Common.{◌≡◌, ℕ, ◌+◌, ◌*◌, ◌/◌, ◌%◌, ◌<◌, ◌≤◌, true, false, cond, ◌≢◌, ◌⊎◌, List, length, get_or, set, Ok, vec_items, sym, refl, ◌∙◌, subst, inl, inr, ⊎_elim, arith}
 use Rattle.std.proofs.lemmas.List.{get_or-set_same, get_or-set_other, length-set}
-use Rattle.std.proofs.lemmas.Bool.{both_ways, and_parts, and_from, ltb-true, leb-true, eqb-true, eq-eqb, cases_order, cases_Bool, cond-true, cond-false, cond_both}
+use Rattle.std.proofs.lemmas.Bool.{both_ways, and_parts, and_from, ltb-true, leb-true, eqb-true, eq-eqb, cases_order, cond-true, cond-false, cond_both}
 use Rattle.std.proofs.lemmas.Bool.Decides.{nat_tests}
 use Rattle.memory.specs.declared.packed.Packed.{Packed}
 use Rattle.memory.specs.declared.packed.PackedSizes.{PackedSizes}
@@ -12,7 +12,7 @@ use Rattle.memory.specs.declared.place.Space.{Space}
 use Rattle.memory.specs.declared.place.Space.TheVariants.{X, Y, P}
 use Rattle.memory.specs.Packed.{offset, holds_word, three_bytes, with_bytes, packed_owner, packed_kind, packed_word, packed_of, packed_meaning}
 use Rattle.memory.specs.Meaning.{Meaning, same_space, same_place, may_store, put, after_store}
-use Rattle.memory.proofs.Stores.{same_place_is, store_leaves, stored_word_fits, stored_place_is_plain}
+use Rattle.memory.proofs.Stores.{word_put, store_leaves, stored_word_fits, stored_place_is_plain}
 
 module _ (bytes : List ℕ) (i w : ℕ) where
   byte_elsewhere : (j : ℕ) → j ≢ i → j ≢ i + 1 → j ≢ i + 2 → get_or (with_bytes bytes i w) j 0 ≡ get_or bytes j 0
@@ -87,11 +87,7 @@ module _ (bytes : List ℕ) (z : PackedSizes) (room : 3 * z.count ≤ length byt
       (λ none. sym (cond-false (holds_word z q) _ _ none))
 
   word_after : (q : Place) → packed_word (with_bytes bytes (offset z p) w) z q ≡ cond (same_place p q) w (packed_word bytes z q)
-  word_after q =
-      ⊎_elim
-      (λ same. subst (λ r. packed_word (with_bytes bytes (offset z p) w) z r ≡ w) (same_place_is p q same) word_there ∙ sym (cond-true (same_place p q) _ _ same))
-      (λ other. word_elsewhere q other ∙ sym (cond-false (same_place p q) _ _ other))
-      (cases_Bool (same_place p q))
+  word_after = word_put (packed_word bytes z) (packed_word (with_bytes bytes (offset z p) w) z) p w word_there word_elsewhere
 
   pub packed_after : packed_of (with_bytes bytes (offset z p) w) z ≡ put (packed_of bytes z) p w
   packed_after = λ i. record { kind = packed_kind z; word = λ q. word_after q i; owner = λ q. packed_owner }

@@ -1,5 +1,6 @@
 -- A store that the kind allows, and what it leaves.
-use Rattle.std.proofs.Common.{◌≡◌, ℕ, ◌<◌, true, Ok, Err, Result, ap, ◌∙◌, arith}
+use Rattle.std.proofs.Common.{false, cond, sym, subst, ⊎_elim, ◌≡◌, ℕ, ◌<◌, true, Ok, Err, Result, ap, ◌∙◌, arith}
+use Rattle.std.proofs.lemmas.Bool.{cases_Bool, cond-true, cond-false}
 use Rattle.std.proofs.lemmas.Bool.Decides.{nat_tests}
 use Rattle.memory.specs.declared.place.Kind.{Kind}
 use Rattle.memory.specs.declared.place.Kind.TheVariants.{Plain}
@@ -23,3 +24,11 @@ module _ (m : Meaning) (p : Place) (w : ℕ) (k : Kind) (is : k ≡ m.kind p) (a
 
 pub same_place_is : (p q : Place) → same_place p q ≡ true → p ≡ q
 same_place_is p q h = grind (arith, nat_tests)
+
+-- words that hold w at p, and elsewhere what they held
+pub word_put : (before after : Place → ℕ) (p : Place) (w : ℕ) → after p ≡ w → ((q : Place) → same_place p q ≡ false → after q ≡ before q) → (q : Place) → after q ≡ cond (same_place p q) w (before q)
+word_put before after p w there elsewhere q =
+    ⊎_elim
+    (λ same. subst (λ r. after r ≡ w) (same_place_is p q same) there ∙ sym (cond-true (same_place p q) _ _ same))
+    (λ other. elsewhere q other ∙ sym (cond-false (same_place p q) _ _ other))
+    (cases_Bool (same_place p q))

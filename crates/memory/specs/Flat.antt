@@ -1,5 +1,5 @@
 -- What a flat memory means: X words, then Y words, then P words in one list.
-use Rattle.std.specs.Prelude.{ℕ, ◌+◌, ◌%◌, Bool, cond, not, ◌||◌, List, length, Ok, Err, vec_items, Result, ◌==◌, nat_lt, slice_index}
+use Rattle.std.specs.Prelude.{ℕ, ◌+◌, ◌%◌, Bool, if◌then◌else◌, not, ◌||◌, List, length, Ok, Err, vec_items, Result, ◌==◌, nat_lt, slice_index}
 use Rattle.memory.specs.declared.flat.Flat.{Flat}
 use Rattle.memory.specs.declared.flat.FlatSizes.{FlatSizes}
 use Rattle.memory.specs.declared.place.Kind.{Kind}
@@ -28,17 +28,17 @@ start_of z P = z.x + z.y
 
 -- the kind of a place that the sizes cover
 abbrev pub covered_kind : FlatSizes → Place → Kind
-covered_kind z p = elim p.space [ X ↦ Plain | Y ↦ Plain | P ↦ cond (nat_lt p.address z.fixed_from) Plain Fixed ]
+covered_kind z p = elim p.space [ X ↦ Plain | Y ↦ Plain | P ↦ (if nat_lt p.address z.fixed_from then Plain else Fixed) ]
 
 abbrev pub covers : FlatSizes → Place → Bool
 covers z p = nat_lt p.address (size_of z p.space)
 
 abbrev pub flat_kind : FlatSizes → Place → Kind
-flat_kind z p = cond (covers z p) (covered_kind z p) Absent
+flat_kind z p = if covers z p then covered_kind z p else Absent
 
 -- a word is the low 24 bits of its number
 abbrev pub flat_word : List ℕ → FlatSizes → Place → ℕ
-flat_word words z p = cond (covers z p) (slice_index words (start_of z p.space + p.address) % 0x1000000) 0
+flat_word words z p = if covers z p then slice_index words (start_of z p.space + p.address) % 0x1000000 else 0
 
 abbrev pub flat_of : List ℕ → FlatSizes → Meaning
 flat_of words z = record { kind = flat_kind z; word = flat_word words z; owner = λ p. flat_owner }
@@ -52,7 +52,7 @@ flat_unfit z count =
     nat_lt 65536 z.x || (nat_lt 65536 z.y || (nat_lt 65536 z.p || (nat_lt z.p z.fixed_from || not (count == z.x + z.y + z.p))))
 
 abbrev pub flat_check : FlatSizes → ℕ → Result (Unit {0}) Refusal
-flat_check z count = cond (flat_unfit z count) (Err UnfitSizes) (Ok tt)
+flat_check z count = if flat_unfit z count then Err UnfitSizes else Ok tt
 
 abbrev pub made_flat : FlatSizes → List ℕ → Meaning
-made_flat z words = cond (flat_unfit z (length words)) (nowhere flat_owner) (flat_of words z)
+made_flat z words = if flat_unfit z (length words) then nowhere flat_owner else flat_of words z

@@ -1,5 +1,5 @@
 -- What a memory means, and what a load and a store answer and leave.
-use Rattle.std.specs.Prelude.{ℕ, Bool, true, false, cond, ◌&&◌, Ok, Err, Result, ◌==◌, nat_lt}
+use Rattle.std.specs.Prelude.{ℕ, Bool, true, false, if◌then◌else◌, ◌&&◌, Ok, Err, Result, ◌==◌, nat_lt}
 use Rattle.memory.specs.declared.place.Kind.{Kind}
 use Rattle.memory.specs.declared.place.Kind.TheVariants.{Absent, Fixed, Plain}
 use Rattle.memory.specs.declared.place.Owner.{Owner}
@@ -44,15 +44,15 @@ load_answer m p = elim (m.kind p) [ Absent ↦ Err (fault m AbsentLoad p) | Fixe
 -- a word that is too large is refused first, whatever the place is
 abbrev pub may_store : Kind → ℕ → Result (Unit {0}) Refusal
 may_store k w =
-    cond (nat_lt 0xFFFFFF w) (Err ValueTooLarge)
-    (elim k [ Absent ↦ Err AbsentStore | Fixed ↦ Err FixedStore | Plain ↦ Ok tt ])
+    if nat_lt 0xFFFFFF w then Err ValueTooLarge
+    else elim k [ Absent ↦ Err AbsentStore | Fixed ↦ Err FixedStore | Plain ↦ Ok tt ]
 
 abbrev pub store_answer : Meaning → Place → ℕ → Result (Unit {0}) Fault
 store_answer m p w = elim (may_store (m.kind p) w) [ Ok u ↦ Ok tt | Err cause ↦ Err (fault m cause p) ]
 
 -- one word put at one place; all else stands
 abbrev pub put : Meaning → Place → ℕ → Meaning
-put m p w = record { kind = m.kind; word = λ q. cond (same_place p q) w (m.word q); owner = m.owner }
+put m p w = record { kind = m.kind; word = λ q. (if same_place p q then w else m.word q); owner = m.owner }
 
 abbrev pub after_store : Meaning → Place → ℕ → Meaning
 after_store m p w = elim (may_store (m.kind p) w) [ Ok u ↦ put m p w | Err cause ↦ m ]

@@ -1,5 +1,5 @@
 -- What a packed memory means: every third address of one space, three bytes a word.
-use Rattle.std.specs.Prelude.{ℕ, ◌+◌, ◌-◌, ◌*◌, ◌/◌, ◌%◌, Bool, cond, not, ◌&&◌, ◌||◌, List, length, Ok, Err, vec_items, Result, ◌==◌, nat_le, nat_lt, slice_index, slice_set}
+use Rattle.std.specs.Prelude.{ℕ, ◌+◌, ◌-◌, ◌*◌, ◌/◌, ◌%◌, Bool, if◌then◌else◌, not, ◌&&◌, ◌||◌, List, length, Ok, Err, vec_items, Result, ◌==◌, nat_le, nat_lt, slice_index, slice_set}
 use Rattle.memory.specs.declared.packed.Packed.{Packed}
 use Rattle.memory.specs.declared.packed.PackedSizes.{PackedSizes}
 use Rattle.memory.specs.declared.place.Kind.{Kind}
@@ -21,7 +21,7 @@ abbrev pub holds_word : PackedSizes → Place → Bool
 holds_word z p = nat_lt (offset z p) (3 * z.count) && (nat_le z.base p.address && (offset z p % 3 == 0 && same_space z.space p.space))
 
 abbrev pub packed_kind : PackedSizes → Place → Kind
-packed_kind z p = cond (holds_word z p) Plain Absent
+packed_kind z p = if holds_word z p then Plain else Absent
 
 -- the number that three bytes from i on make, the lowest first
 abbrev pub three_bytes : List ℕ → ℕ → ℕ
@@ -32,7 +32,7 @@ abbrev pub with_bytes : List ℕ → ℕ → ℕ → List ℕ
 with_bytes bytes i w = slice_set (slice_set (slice_set bytes i (w % 256)) (i + 1) (w / 256 % 256)) (i + 2) (w / 65536 % 256)
 
 abbrev pub packed_word : List ℕ → PackedSizes → Place → ℕ
-packed_word bytes z p = cond (holds_word z p) (three_bytes bytes (offset z p)) 0
+packed_word bytes z p = if holds_word z p then three_bytes bytes (offset z p) else 0
 
 abbrev pub packed_of : List ℕ → PackedSizes → Meaning
 packed_of bytes z = record { kind = packed_kind z; word = packed_word bytes z; owner = λ p. packed_owner }
@@ -45,7 +45,7 @@ abbrev pub packed_unfit : PackedSizes → ℕ → Bool
 packed_unfit z count = nat_lt 65536 z.count || (not (count == 3 * z.count) || nat_lt 0x1000000 (z.base + 3 * z.count))
 
 abbrev pub packed_check : PackedSizes → ℕ → Result (Unit {0}) Refusal
-packed_check z count = cond (packed_unfit z count) (Err UnfitSizes) (Ok tt)
+packed_check z count = if packed_unfit z count then Err UnfitSizes else Ok tt
 
 abbrev pub made_packed : PackedSizes → List ℕ → Meaning
-made_packed z bytes = cond (packed_unfit z (length bytes)) (nowhere packed_owner) (packed_of bytes z)
+made_packed z bytes = if packed_unfit z (length bytes) then nowhere packed_owner else packed_of bytes z

@@ -29,8 +29,8 @@ impl Owner {
         ensures value { result ≡ deeper self }
     {
         Owner {
-            letter: self.letter,
             depth: self.depth.saturating_add(1),
+            ..self
         }
     }
 }
@@ -41,9 +41,8 @@ impl Fault {
         ensures value { result ≡ deeper_fault self }
     {
         Fault {
-            cause: self.cause,
-            place: self.place,
             owner: self.owner.deeper(),
+            ..self
         }
     }
 }
@@ -64,18 +63,20 @@ impl<Low: Memory, High: Memory> Memory for Border<Low, High> {
     }
 
     fn load(&mut self, place: Place) -> Result<u32, Fault> {
-        if self.is_low(place) {
-            self.low.load(place).map_err(Fault::deeper)
+        let answer = if self.is_low(place) {
+            self.low.load(place)
         } else {
-            self.high.load(place).map_err(Fault::deeper)
-        }
+            self.high.load(place)
+        };
+        answer.map_err(Fault::deeper)
     }
 
     fn store(&mut self, place: Place, word: u32) -> Result<(), Fault> {
-        if self.is_low(place) {
-            self.low.store(place, word).map_err(Fault::deeper)
+        let answer = if self.is_low(place) {
+            self.low.store(place, word)
         } else {
-            self.high.store(place, word).map_err(Fault::deeper)
-        }
+            self.high.store(place, word)
+        };
+        answer.map_err(Fault::deeper)
     }
 }

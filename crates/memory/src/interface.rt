@@ -20,7 +20,7 @@ pub trait Memory {
         ensures value { result ≡ load_answer (meaning self.old) place }
         ensures same { meaning self.new ≡ meaning self.old };
 
-    // A place and its word are no type of their own: nothing but this call takes the two.
+    // A place and its word are no type of their own: the pair would be made here and taken apart here.
     fn store(&mut self, place: Place, word: u32) -> Result<(), Fault>
         ensures value { result ≡ store_answer (meaning self.old) place word }
         ensures after { meaning self.new ≡ after_store (meaning self.old) place word };

@@ -181,24 +181,11 @@ impl Memory for Far {
     }
 
     fn load(&mut self, place: Place) -> Result<u32, Fault> {
-        let owner = self.0;
-        Err(Fault {
-            cause: Refusal::AbsentLoad,
-            place,
-            owner,
-        })
+        Err(self.0.fault(Refusal::AbsentLoad, place))
     }
 
     fn store(&mut self, place: Place, word: u32) -> Result<(), Fault> {
-        let owner = self.0;
-        match may_store(Kind::Absent, word) {
-            Err(cause) => Err(Fault {
-                cause,
-                place,
-                owner,
-            }),
-            Ok(()) => Ok(()),
-        }
+        may_store(Kind::Absent, word).map_err(|cause| self.0.fault(cause, place))
     }
 }
 
@@ -215,10 +202,7 @@ fn behind<M: Memory>(low: M) -> Border<M, Far> {
 }
 
 fn depth_of(answer: Result<u32, Fault>) -> Option<u8> {
-    match answer {
-        Ok(_) => None,
-        Err(fault) => Some(fault.owner.depth),
-    }
+    answer.err().map(|fault| fault.owner.depth)
 }
 
 #[test]
