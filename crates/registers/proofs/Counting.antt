@@ -2,6 +2,7 @@
 use Rattle.std.proofs.Common.{◌≡◌, ℕ, zero, suc, ◌+◌, ◌-◌, ◌*◌, ◌/◌, ◌%◌, ◌<◌, ◌≤◌, true, false, eqb, ◌↔◌, sym, ap, ◌∙◌, mul-le-mul, arith}
 use Rattle.std.proofs.lemmas.Nat.{div-mul-add, mod-mul-add}
 use Rattle.std.proofs.lemmas.Bool.Decides.{nat_tests}
+use Rattle.std.proofs.lemmas.Nat.{same_from_place}
 use Rattle.registers.specs.declared.counter.Fields.{Fields}
 use Rattle.registers.specs.Counter.{fields, lines, line_length, block_length, words_left, position, Within, ends_block, stepped}
 
@@ -37,17 +38,10 @@ moved_and_left_make_block p f w = omega (arith, words_left_within_block p f w)
 pub nothing_moved_at_preload : (p : Fields) → position p p ≡ 0
 nothing_moved_at_preload p = omega (arith, all_words_left_at_preload p)
 
--- a number of two digits in base `base` tells both of them
-digits_apart : (a b c d base : ℕ) → b < base → d < base → a * base + b ≡ c * base + d → (a ≡ c) × (b ≡ d)
-digits_apart a b c d base low_b low_d e = (
-  sym (div-mul-add a base b low_b) ∙ ap (λ n. n / base) e ∙ div-mul-add c base d low_d,
-  sym (mod-mul-add a base b low_b) ∙ ap (λ n. n % base) e ∙ mod-mul-add c base d low_d,
-)
-
 pub words_left_tell_fields : (p f g : Fields) → Within p f → Within p g → words_left p f ≡ words_left p g → f ≡ g
 words_left_tell_fields p f g in_f in_g e =
-    let line = digits_apart (f.high * lines p + f.middle) f.low (g.high * lines p + g.middle) g.low (line_length p) (omega arith) (omega arith) (omega arith) in
-    let plane = digits_apart f.high f.middle g.high g.middle (lines p) (omega arith) (omega arith) line.0 in
+    let line = same_from_place (f.high * lines p + f.middle) f.low (g.high * lines p + g.middle) g.low (line_length p) (omega arith) (omega arith) (omega arith) in
+    let plane = same_from_place f.high f.middle g.high g.middle (lines p) (omega arith) (omega arith) line.0 in
     same_fields f g plane.0 plane.1 line.1
 
 pub position_tells_fields : (p f g : Fields) → Within p f → Within p g → position p f ≡ position p g → f ≡ g

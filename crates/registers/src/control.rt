@@ -62,7 +62,7 @@ pub(crate) fn field(at: u32, width: u32, word: u32) -> u32
     (word >> at) % (1 << width)
 }
 
-// The five readers below are one line each and differ only in the bits and the type that they read: a table of them would be no shorter.
+// One function for each field by its name: what they share is `field`, and a call of it would say no more.
 
 // DE: the channel takes requests.
 pub fn enabled(word: u32) -> bool
@@ -118,7 +118,7 @@ impl TryFrom<u32> for TransferMode {
     }
 }
 
-// The update of a side by its code; no TryFrom, since the other side decides what a code means. The codes of three dimensions are reserved unless the other side has three.
+// The update of a side by its code. No TryFrom: the rule is one match with a guard on the side beside it.
 fn update_of(beside: bool, code: u32) -> Result<Update, Refusal>
     ensures value { Gives (update_of beside code) ReservedShape result }
 {

@@ -39,7 +39,7 @@ pub struct Counted {
 }
 
 impl Fields {
-    // The three below go by the name of what ends, each by the one before it.
+    // Line, plane and block have a test each, made of the one before: one test for the three would have to be told which.
 
     // A word that is moved at this count is the last of its line.
     pub fn ends_line(self) -> bool
@@ -70,18 +70,16 @@ impl Fields {
             (0, 0, 0) => preload,
             (high, 0, 0) => Fields {
                 high: high - 1,
-                middle: preload.middle,
-                low: preload.low,
+                ..preload
             },
             (high, middle, 0) => Fields {
                 high,
                 middle: middle - 1,
-                low: preload.low,
+                ..preload
             },
-            (high, middle, low) => Fields {
-                high,
-                middle,
+            (_, _, low) => Fields {
                 low: low - 1,
+                ..self
             },
         }
     }

@@ -13,7 +13,7 @@ pub struct Lines<'a> {
 
 impl<'a> Lines<'a> {
     pub fn new(input: &'a [u8]) -> Lines<'a>
-        ensures { lines_left result ≡ lines input.now }
+        ensures value { lines_left result ≡ lines input.now }
     {
         Lines { rest: input }
     }
@@ -35,7 +35,7 @@ impl<'a> Iterator for Lines<'a> {
 
 // Where the first line feed is.
 fn end_of_line(input: &[u8]) -> Option<usize>
-    ensures { result ≡ position (λ b. b == 10) input.now }
+    ensures value { result ≡ position (λ b. b == 10) input.now }
 {
     input.iter().position(|byte| *byte == LINE_FEED)
 }

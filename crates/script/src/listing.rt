@@ -53,6 +53,7 @@ pub fn answer<M: Memory>(memory: &mut M, form: Option<Form>) -> Answer
     ensures after { M.meaning memory.new ≡ after_request (M.meaning memory.old) form }
     ensures words_fit { AnswerFits result }
 {
+    // No `map_or`: of what its closure changes, the memory, nothing would be known.
     match form {
         Some(form) => serve(memory, form),
         None => Answer::NoForm,

@@ -8,7 +8,7 @@ use crate::listing::{answer_all, listing, requests};
 use forms::form::Form;
 use memory::interface::Memory;
 use memory::place::{Kind, Owner, Place, Space};
-use memory::refusal::{Fault, Refusal};
+use memory::refusal::{Fault, Refusal, may_store};
 use std::alloc::AllocError;
 use std::process::Abort;
 use std::test::Fail;
@@ -45,13 +45,7 @@ impl Memory for Addresses {
     }
 
     fn store(&mut self, place: Place, word: u32) -> Result<(), Fault> {
-        if word > 0xFF_FFFF {
-            return Err(OWNER.fault(Refusal::ValueTooLarge, place));
-        }
-        if place.address > 0xFF_FFFF {
-            return Err(OWNER.fault(Refusal::AbsentStore, place));
-        }
-        Err(OWNER.fault(Refusal::FixedStore, place))
+        may_store(self.kind(place), word).map_err(|cause| OWNER.fault(cause, place))
     }
 }
 
