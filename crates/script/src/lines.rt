@@ -5,7 +5,7 @@ ghost use Rattle.script.specs.Lines.{lines, lines_left};
 
 const LINE_FEED: u8 = b'\n';
 
-// The lines of an input that are still to come.
+// The lines of an input that are still to come. An iterator of our own, round `next_line`: the pieces of `split_inclusive` keep their feeds.
 #[derive(Drop)]
 pub struct Lines<'a> {
     rest: &'a [u8],

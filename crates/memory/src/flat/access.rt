@@ -8,6 +8,7 @@ use crate::interface::Memory;
 use crate::place::{Kind, Owner, Place, Space};
 use crate::refusal::{Fault, Refusal, may_store};
 
+// The test and the index stand apart: a store has made the test by the kind.
 impl FlatSizes {
     fn covers(self, place: Place) -> bool
         ensures value { result ≡ covers self place }

@@ -13,6 +13,7 @@ const OWNER: Owner = Owner {
     depth: 0,
 };
 
+// The test and the index stand apart: a store has made the test by the kind.
 impl PackedSizes {
     fn holds_word(self, place: Place) -> bool
         ensures value { result ≡ holds_word self place }
