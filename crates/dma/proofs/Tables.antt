@@ -3,6 +3,7 @@ use Rattle.std.proofs.Common.{◌≡◌, ℕ, suc, ◌+◌, ◌<◌, ◌≤◌, 
 use Rattle.std.proofs.lemmas.List.{get_or-replicate, get_or_past, length-replicate, get_or-set_same, get_or-set_other, set_past, length-append, length-map, length-take, length-drop, get_or_default, take_all, drop_all, get_or-map}
 use Rattle.std.proofs.lemmas.List.Edits.{map_over_more}
 use Rattle.std.proofs.lemmas.Bool.{cases_eq, cases_lt}
+use Rattle.dma.specs.State.{channels}
 
 module _ {T : Type 0} (P : T → Type 0) where
   -- a table of one value, read with a default
@@ -45,6 +46,17 @@ module _ {T : Type 0} (f : T → T) (xs ys : List T) (i : ℕ) (six : length xs 
   map_all h =
       let over : length xs ≤ i = omega arith in
       so_far ∙ (λ k. map f (take_all i xs over k) ++ drop_all i xs over k) ∙ append-nil (map f xs)
+
+-- a table of six, channel by channel
+pub by_channel : {T : Type 0} (xs : List T) (d : T) → length xs ≡ 6 → xs ≡ map (λ c. get_or xs c d) channels
+by_channel [] d six = absurd (omega arith)
+by_channel (a ∷ []) d six = absurd (omega arith)
+by_channel (a ∷ b ∷ []) d six = absurd (omega arith)
+by_channel (a ∷ b ∷ c ∷ []) d six = absurd (omega arith)
+by_channel (a ∷ b ∷ c ∷ e ∷ []) d six = absurd (omega arith)
+by_channel (a ∷ b ∷ c ∷ e ∷ f ∷ []) d six = absurd (omega arith)
+by_channel (a ∷ b ∷ c ∷ e ∷ f ∷ g ∷ []) d six = refl
+by_channel (a ∷ b ∷ c ∷ e ∷ f ∷ g ∷ h ∷ more) d six = absurd (omega arith)
 
 -- a list that is f of another, place by place
 pub mapped : {A B : Type 0} (f : A → B) (xs : List A) (ys : List B) → length ys ≡ length xs → ((i : ℕ) (d : A) (e : B) → i < length xs → get_or ys i e ≡ f (get_or xs i d)) → ys ≡ map f xs
