@@ -1,25 +1,32 @@
 -- Who competes at a priority, and what the searches for the highest priority and for the next channel find.
-use Rattle.std.proofs.Common.{◌≡◌, ℕ, zero, suc, ◌+◌, ◌%◌, ◌<◌, true, false, List, [], ◌∷◌, map, length, Some, unwrap_or, refl, ap, ⊎_elim, arith}
-use Rattle.std.proofs.lemmas.Bool.{cases_lt, both_ways, cond_both}
-use Rattle.std.proofs.lemmas.List.{get_or_past}
+use Rattle.std.proofs.Common.{◌≡◌, ℕ, zero, suc, ◌+◌, ◌%◌, ◌<◌, true, false, List, [], ◌∷◌, map, get_or, Some, unwrap_or, refl, ap, ◌∙◌, arith}
+use Rattle.std.proofs.lemmas.Bool.{cond_both}
 use Rattle.std.proofs.lemmas.List.Elements.{All-from_get_or}
 use Rattle.std.proofs.lemmas.List.Folds.{list_any_at, list_any_none}
 use Rattle.std.specs.List.{find, range_with_len}
 use Rattle.dma.specs.declared.arbitration.Contest.{Contest}
-use Rattle.dma.specs.Arbitration.{nobody, competes_at, competes, any_competes, upward}
+use Rattle.dma.specs.Arbitration.{competes, any_competes, upward}
 use Rattle.dma.specs.ArbitrationLaws.{Highest}
+use Rattle.dma.specs.State.{channels}
+
+-- channel c stands at place c
+a_channel : (c : ℕ) → c < 6 → get_or channels c 0 ≡ c
+a_channel zero h = refl
+a_channel (suc zero) h = refl
+a_channel (suc (suc zero)) h = refl
+a_channel (suc (suc (suc zero))) h = refl
+a_channel (suc (suc (suc (suc zero)))) h = refl
+a_channel (suc (suc (suc (suc (suc zero))))) h = refl
+a_channel (suc (suc (suc (suc (suc (suc c)))))) h = absurd (omega arith)
 
 module _ (k : Contest) (priority : ℕ) where
-  pub one_competes : (c : ℕ) → competes k priority c ≡ true → any_competes k priority ≡ true
-  one_competes c is =
-      ⊎_elim
-      (λ within. list_any_at (competes_at priority) k.contenders c nobody within is)
-      (λ past. absurd (both_ways _ (ap (competes_at priority) (get_or_past k.contenders c nobody past)) is))
-      (cases_lt c (length k.contenders))
+  pub one_competes : (c : ℕ) → c < 6 → competes k priority c ≡ true → any_competes k priority ≡ true
+  unfolding any_competes
+  one_competes c h is = list_any_at (competes k priority) channels c 0 h (ap (competes k priority) (a_channel c h) ∙ is)
 
-  pub none_competes : length k.contenders ≡ 6 → ((c : ℕ) → c < 6 → competes k priority c ≡ false) → any_competes k priority ≡ false
-  none_competes six none =
-      list_any_none (competes_at priority) k.contenders (All-from_get_or (λ x. competes_at priority x ≡ false) k.contenders nobody (λ c h. none c (omega arith)))
+  pub none_competes : ((c : ℕ) → c < 6 → competes k priority c ≡ false) → any_competes k priority ≡ false
+  unfolding any_competes
+  none_competes none = list_any_none (competes k priority) channels (All-from_get_or (λ c. competes k priority c ≡ false) channels 0 (λ c h. ap (competes k priority) (a_channel c h) ∙ none c h))
 
   -- the search upward, as a list of channels that is searched
   pub found_upward : (tries first i c : ℕ) → c ≡ (first + i) % 6 → find (competes k priority) (map (λ step. (first + step) % 6) (range_with_len i tries)) ≡ upward k priority tries c

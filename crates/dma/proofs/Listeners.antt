@@ -4,12 +4,12 @@ use Rattle.std.proofs.lemmas.Bool.{and_left, cond-false}
 use Rattle.dma.specs.declared.row.Row.{Row}
 use Rattle.dma.specs.Channels.{listens, captures, misses, made_due}
 use Rattle.dma.specs.Raises.{no_such_source, bit, mask, with_due, asked, raise_answer, after_raise, NobodyListens, no_masks}
-use Rattle.dma.specs.State.{State, row_at}
+use Rattle.dma.specs.State.{State, channels, row_at}
 
 -- a test that holds of no channel gives an empty mask
 empty_mask : (test : Row → Bool) (rows : List Row) → ((c : ℕ) → test (row_at rows c) ≡ false) → mask test rows ≡ 0
 empty_mask test rows none =
-    λ i. sum_by (λ c. bit (none c i) c) (0 ∷ 1 ∷ 2 ∷ 3 ∷ 4 ∷ 5 ∷ [])
+    λ i. sum_by (λ c. bit (none c i) c) channels
 
 unasked : (source : ℕ) (rows : List Row) → ((c : ℕ) → listens source (row_at rows c) ≡ false) → map (asked source) rows ≡ rows
 unasked source [] none = refl

@@ -1,10 +1,11 @@
 -- The channel that arbitration picks is the one that its laws ask for.
-use Rattle.std.proofs.Common.{◌≡◌, ℕ, zero, suc, ◌+◌, ◌%◌, ◌<◌, ◌≤◌, Bool, true, false, cond, ◌&&◌, length, Some, None, Option, sym, refl, ap, ◌∙◌, subst, inl, inr, arith}
+use Rattle.std.proofs.Common.{◌≡◌, ℕ, zero, suc, ◌+◌, ◌%◌, ◌<◌, ◌≤◌, Bool, true, false, cond, ◌&&◌, [], ◌∷◌, Some, None, Option, unwrap_or, sym, refl, ap, ◌∙◌, subst, inl, inr, arith}
 use Rattle.std.proofs.lemmas.Bool.{cond_both, and_parts, and_from, eqb-true, eq-eqb, both_ways, cases_Bool}
+use Rattle.std.specs.List.{find}
 use Rattle.dma.specs.declared.arbitration.Contest.{Contest}
 use Rattle.dma.specs.Arbitration.{contender_at, competes, any_competes, upward, served_at, winner}
 use Rattle.dma.specs.ArbitrationLaws.{Waits, priority_of, remembered, distance, GoesOn, Highest, WellMade, Wins, Arbitrates}
-use Rattle.dma.proofs.Contests.{one_competes, none_competes}
+use Rattle.dma.proofs.Contests.{one_competes, none_competes, highest_found}
 
 -- the channel at a distance from the one after the remembered
 at_its_distance : (last c : ℕ) → last < 6 → c < 6 → ((last + 1) % 6 + distance last c) % 6 ≡ c
@@ -94,8 +95,8 @@ picked : {A : Type 0} (is_in : ℕ → Bool) (pick : ℕ → A) (top : ℕ) → 
 picked is_in pick top h above some = grind (arith, above 3, above 2, above 1, some)
 
 module _ (k : Contest) where
-  idle_priority : (priority c : ℕ) → any_competes k priority ≡ false → competes k priority c ≡ false
-  idle_priority priority c idle = grind (arith, one_competes k priority c)
+  idle_priority : (priority c : ℕ) → any_competes k priority ≡ false → c < 6 → competes k priority c ≡ false
+  idle_priority priority c idle h = grind (arith, one_competes k priority c h)
 
   pub highest_serves_the_winner : (top : ℕ) → Highest k top → winner k ≡ served_at k top
   highest_serves_the_winner top high = picked (any_competes k) (served_at k) top high.a_priority high.idle_above high.else_lowest
@@ -103,17 +104,17 @@ module _ (k : Contest) where
   waiting_competes : (c : ℕ) → Waits k c → competes k (priority_of k c) c ≡ true
   waiting_competes c waits = and_from _ _ waits.words_due (eq-eqb _ _ refl)
 
-module _ (k : Contest) (six : length k.contenders ≡ 6) (well : WellMade k) (top : ℕ) (is : Highest k top) where
+module _ (k : Contest) (well : WellMade k) (top : ℕ) (is : Highest k top) where
   small : remembered k top < 6
   small = well.six_channels top is.a_priority
 
   waiting_is_not_above : (c : ℕ) → Waits k c → priority_of k c ≤ top
   waiting_is_not_above c waits =
-      grind (arith, waiting_competes k c waits, idle_priority k (priority_of k c) c, is.idle_above (priority_of k c), well.four_priorities c waits.a_channel)
+      grind (arith, waiting_competes k c waits, waits.a_channel, idle_priority k (priority_of k c) c, is.idle_above (priority_of k c), well.four_priorities c waits.a_channel)
 
   nobody_waits : ((c : ℕ) → c < 6 → competes k top c ≡ false) → (c : ℕ) → Waits k c → ⊥
   nobody_waits none c waits =
-      grind (arith, none c waits.a_channel, waiting_competes k c waits, waiting_is_not_above c waits, none_competes k top six none, is.else_lowest)
+      grind (arith, none c waits.a_channel, waiting_competes k c waits, waiting_is_not_above c waits, none_competes k top none, is.else_lowest)
 
   on_if_goes_on : GoesOn k top → goes_on k top (remembered k top) small ≡ true
   on_if_goes_on on = and_from _ _ (and_from _ _ on.waits.words_due (eq-eqb _ _ on.of_this_priority)) on.is_continuous
@@ -151,5 +152,10 @@ module _ (k : Contest) (six : length k.contenders ≡ 6) (well : WellMade k) (to
     rightly = λ v e. let same : w ≡ v = cc in subst (Wins k) same (served_wins w served);
   }
 
-  pub served_lawfully : Arbitrates k (served_at k top)
+  served_lawfully : Arbitrates k (served_at k top)
   served_lawfully = served_arbitrates _ (turn k top (remembered k top) small)
+
+pub winner_arbitrates : (k : Contest) → WellMade k → Arbitrates k (winner k)
+winner_arbitrates k well =
+    let top = unwrap_or (find (any_competes k) (3 ∷ 2 ∷ 1 ∷ [])) 0 in
+    subst (Arbitrates k) (sym (highest_serves_the_winner k top (highest_found k))) (served_lawfully k well top (highest_found k))

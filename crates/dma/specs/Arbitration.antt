@@ -3,6 +3,7 @@ use Rattle.std.specs.Prelude.{ℕ, zero, suc, ◌+◌, ◌%◌, Bool, false, if�
 use Rattle.std.specs.List.{list_any}
 use Rattle.dma.specs.declared.arbitration.Contender.{Contender}
 use Rattle.dma.specs.declared.arbitration.Contest.{Contest}
+use Rattle.dma.specs.State.{channels}
 
 -- a number that is no channel has nothing due
 abbrev pub nobody : Contender
@@ -18,9 +19,9 @@ competes_at priority contender = contender.due && contender.priority == priority
 abbrev pub competes : Contest → ℕ → ℕ → Bool
 competes k priority c = competes_at priority (contender_at k c)
 
--- any of the six has words due at this priority
-abbrev pub any_competes : Contest → ℕ → Bool
-any_competes k priority = list_any (competes_at priority) k.contenders
+-- any of the six has words due at this priority; shut, since who only picks a priority need not see it
+unfoldable pub any_competes : Contest → ℕ → Bool
+any_competes k priority = list_any (competes k priority) channels
 
 -- the next channel upward that competes, 0 following 5, of so many from c on
 abbrev pub upward : Contest → ℕ → ℕ → ℕ → Option ℕ

@@ -1,11 +1,11 @@
 -- A request of a source: who takes it, who misses it, and what it makes due.
-use Rattle.std.specs.Prelude.{◌≡◌, ℕ, ◌^◌, Bool, false, if◌then◌else◌, ◌&&◌, ◌||◌, List, [], ◌∷◌, map, sum_by, Ok, Err, Result, nat_le, nat_lt}
+use Rattle.std.specs.Prelude.{◌≡◌, ℕ, ◌^◌, Bool, false, if◌then◌else◌, ◌&&◌, ◌||◌, List, map, sum_by, Ok, Err, Result, nat_le, nat_lt}
 use Rattle.memory.specs.declared.refusal.Refusal.{Refusal}
 use Rattle.memory.specs.declared.refusal.Refusal.TheVariants.{NoSuchSource}
 use Rattle.dma.specs.declared.masks.Masks.{Masks}
 use Rattle.dma.specs.declared.row.Row.{Row}
 use Rattle.dma.specs.Channels.{listens, captures, misses, made_due}
-use Rattle.dma.specs.State.{State, row_at}
+use Rattle.dma.specs.State.{State, channels, row_at}
 
 -- the sources 4 to 9 are the block ends, which no device raises; there are none above 31
 abbrev pub no_such_source : ℕ → Bool
@@ -16,7 +16,7 @@ bit b c = if b then 2 ^ c else 0
 
 -- the channels that are in, bit c for channel c
 abbrev pub mask_of : (ℕ → Bool) → ℕ
-mask_of is_in = sum_by (λ c. bit (is_in c) c) (0 ∷ 1 ∷ 2 ∷ 3 ∷ 4 ∷ 5 ∷ [])
+mask_of is_in = sum_by (λ c. bit (is_in c) c) channels
 
 -- the channels of a table for which a test holds
 abbrev pub mask : (Row → Bool) → List Row → ℕ

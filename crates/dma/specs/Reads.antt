@@ -11,7 +11,7 @@ use Rattle.dma.specs.declared.row.Row.{Row}
 use Rattle.dma.specs.Arbitration.{winner}
 use Rattle.dma.specs.Channels.{settings}
 use Rattle.dma.specs.Raises.{mask}
-use Rattle.dma.specs.State.{State, row_at}
+use Rattle.dma.specs.State.{State, channels, row_at}
 
 -- what arbitration looks at of one channel
 abbrev pub contender : Row → Contender
@@ -19,7 +19,7 @@ contender r = record { due = nat_lt 0 r.due; priority = (settings r).priority; c
 
 -- what arbitration looks at
 abbrev pub contest : State → Contest
-contest s = record { contenders = map contender s.rows; last = s.last }
+contest s = record { contenders = map (λ c. contender (row_at s.rows c)) channels; last = s.last }
 
 -- the channel that the next slot would serve
 unfoldable pub next_served : State → Option ℕ

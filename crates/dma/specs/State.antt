@@ -1,5 +1,5 @@
 -- The state of a controller: its table of channels and what they share.
-use Rattle.std.specs.Prelude.{ℕ, false, List, replicate, slice_index_or}
+use Rattle.std.specs.Prelude.{ℕ, false, List, [], ◌∷◌, replicate, slice_index_or}
 use Rattle.dma.specs.declared.row.Row.{Row}
 
 pub record State : Type 0 where
@@ -19,6 +19,10 @@ reset_row = record {
   requested = false;
   serving = false;
 }
+
+-- the numbers of the six channels
+abbrev pub channels : List ℕ
+channels = 0 ∷ 1 ∷ 2 ∷ 3 ∷ 4 ∷ 5 ∷ []
 
 abbrev pub row_at : List Row → ℕ → Row
 row_at rows c = slice_index_or rows c reset_row

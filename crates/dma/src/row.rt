@@ -9,7 +9,7 @@ use registers::counter::{Counter, Layout};
 use registers::update::Update;
 
 // What a channel holds. After reset all of it is zero and false.
-#[derive(Clone, Copy, PartialEq, Eq, Debug)]
+#[derive(Clone, Copy, PartialEq, Eq, Debug, Default)]
 pub struct Row {
     // DSR and DDR: where the next word comes from and goes to.
     pub source: u32,

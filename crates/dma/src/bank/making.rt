@@ -6,25 +6,13 @@ ghost use Rattle.dma.specs.State.{reset};
 use crate::bank::Bank;
 use crate::row::Row;
 
-const AT_RESET: Row = Row {
-    source: 0,
-    destination: 0,
-    count: 0,
-    preload: 0,
-    control: 0,
-    due: 0,
-    active: false,
-    requested: false,
-    serving: false,
-};
-
 impl Bank {
     // Every register is 0, every channel is done, and every priority remembers channel 5.
     pub fn reset() -> Bank
         ensures value { state_of result ≡ reset }
     {
         Bank {
-            rows: [AT_RESET; 6],
+            rows: [Row::default(); 6],
             offsets: [0; 4],
             last: [5; 4],
         }

@@ -47,9 +47,10 @@ impl Bank {
     {
         can_be_raised(source)?;
         let masks = masks(&self.rows, source);
-        for row in &mut self.rows {
+        self.rows = self.rows.map(|mut row| {
             row.ask(source);
-        }
+            row
+        });
         Ok(masks)
     }
 
@@ -59,9 +60,10 @@ impl Bank {
         ensures after { state_of self.new ≡ after_stop (state_of self.old) }
     {
         let lost = self.rows.iter().map(|row| row.due).sum();
-        for row in &mut self.rows {
+        self.rows = self.rows.map(|mut row| {
             row.halt();
-        }
+            row
+        });
         lost
     }
 }

@@ -1,4 +1,4 @@
-use Rattle.std.proofs.Common.{rules, ◌≡◌, true, refl}
+use Rattle.std.proofs.Common.{rules, refl}
 use Rattle.dma.proofs.Changes.{sound_with}
 use Rattle.dma.proofs.bank.Bank.change_row.Goals as goal
 

@@ -1,9 +1,11 @@
-use Rattle.std.proofs.Common.{rules, ◌≡◌, map}
+use Rattle.std.proofs.Common.{rules, map, ap, ◌∙◌}
 use Rattle.dma.specs.Reads.{contender}
-use Rattle.dma.proofs.Tables.{mapped}
+use Rattle.dma.specs.State.{reset_row}
+use Rattle.dma.proofs.Tables.{by_channel, mapped_by}
 use Rattle.dma.proofs.bank.Bank.contest.Goals as goal
 
 pub returns : goal.returns
 returns c =
-    let is : c.map.result ≡ map contender c.args.self.now.rows = mapped contender _ _ (search rules) (λ i d e h. let one = c.map.ensures.items.at i d e (search rules) in search rules) in
-    record { value = cc }
+    let each = mapped_by contender c.map.ensures.items (search rules) (λ x y q ran. search rules) in
+    let is = each ∙ ap (map contender) (by_channel c.args.self.now.rows reset_row (search rules)) in
+    record { value = λ i. record { contenders = is i; last = c.args.self.now.last } }
