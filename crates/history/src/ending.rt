@@ -18,7 +18,7 @@ impl Awake {
     fn end(self) {
         let mut device = self;
         for channel in 0..6u8 {
-            (device, _) = device.finish(channel);
+            let _ = device.finish(channel);
         }
         all_absent(device.into_services());
     }
@@ -30,7 +30,7 @@ pub(crate) fn absent(token: Option<Service>)
 {
     match token {
         None => {}
-        Some(_service) => unreachable(),
+        Some(_service) => unreachable!(),
     }
 }
 
