@@ -1,5 +1,5 @@
 -- Which calls leave every service as it is.
-use Rattle.std.proofs.Common.{arith, ◌≡◌, ℕ, Bool, true, false, cond, eqb, List, map, length, get_or, set, Some, None, Option, sym, refl, ap, ◌∙◌, subst}
+use Rattle.std.proofs.Common.{arith, ◌≡◌, ℕ, eqb, List, map, length, get_or, set, Some, None, Option, sym, refl, ap, ◌∙◌, subst}
 use Rattle.std.proofs.lemmas.List.{length-map, length-set}
 use Rattle.std.proofs.lemmas.Grind.{common_steps}
 use Rattle.std.proofs.lemmas.Bool.{cond_both}
@@ -31,18 +31,18 @@ row_replaced rows c r e = record { count = length-set rows c r; serving = λ k. 
 rows_mapped : (rows : List Row) (f : Row → Row) → ((r : Row) → (f r).serving ≡ r.serving) → SameServices rows (map f rows)
 rows_mapped rows f keeps = record { count = simp length-map; serving = λ k. grind (arith, common_steps, keeps) }
 
-either_row : (b : Bool) (x y r : Row) → x.serving ≡ r.serving → y.serving ≡ r.serving → (cond b x y).serving ≡ r.serving
-either_row true x y r p q = p
-either_row false x y r p q = q
+-- a row is as much in service as another
+abbrev Alike : Row → Row → Type 0
+Alike was row = row.serving ≡ was.serving
 
-switched_off_serves : (r : Row) → (switched_off r).serving ≡ r.serving
-switched_off_serves r = either_row (eqb r.due 0) _ _ r refl (either_row (by_words (settings r).mode) _ _ r refl refl)
+switched_off_serves : (r : Row) → Alike r (switched_off r)
+switched_off_serves r = cond_both (eqb r.due 0) _ _ (Alike r) (λ _. refl) (λ _. cond_both (by_words (settings r).mode) _ _ (Alike r) (λ _. refl) (λ _. refl))
 
-control_serves : (r : Row) (word : ℕ) → (after_control r word).serving ≡ r.serving
+control_serves : (r : Row) (word : ℕ) → Alike r (after_control r word)
 control_serves r word =
-    either_row (enable r.control) _ _ r
-    (either_row (enable word) _ _ r refl (switched_off_serves (with_control r word)))
-    (either_row (enable word) _ _ r refl refl)
+    cond_both (enable r.control) _ _ (Alike r)
+    (λ _. cond_both (enable word) _ _ (Alike r) (λ _. refl) (λ _. switched_off_serves (with_control r word)))
+    (λ _. cond_both (enable word) _ _ (Alike r) (λ _. refl) (λ _. refl))
 
 set_state_serves : (s : State) (register : Register) (value : ℕ) → SameServices s.rows (set_state s register value).rows
 set_state_serves s (Dsr c) value = row_replaced s.rows c _ refl
@@ -63,7 +63,7 @@ pub raise_serves : (s : State) (source : ℕ) → SameServices s.rows (after_rai
 raise_serves s source =
     cond_both (no_such_source source) _ _ (λ (t : State). SameServices s.rows t.rows)
     (λ _. unchanged s.rows)
-    (λ _. rows_mapped s.rows (asked source) (λ r. either_row (captures source r) _ _ r refl refl))
+    (λ _. rows_mapped s.rows (asked source) (λ r. cond_both (captures source r) _ _ (Alike r) (λ _. refl) (λ _. refl)))
 
 pub stop_serves : (s : State) → SameServices s.rows (after_stop s).rows
 stop_serves s = rows_mapped s.rows halted (λ r. refl)

@@ -74,67 +74,27 @@ impl Awake {
     }
 
     // Opens a service and keeps its token.
-    pub fn begin(self, channel: u8) -> (Awake, Result<(), Refusal>)
-        ensures value { result.1 ≡ answer (begin_refusal (state self.controller) channel) }
-        ensures after { state result.0.controller ≡ after_begin (state self.controller) channel }
+    pub fn begin(&mut self, channel: u8) -> Result<(), Refusal>
+        ensures value { result ≡ answer (begin_refusal (state self.old.controller) channel) }
+        ensures after { state self.new.controller ≡ after_begin (state self.old.controller) channel }
     {
-        let Awake {
-            mut controller,
-            mut services,
-        } = self;
-        // No `?`: the device goes back with either answer.
-        let answer = match controller.begin(channel) {
-            Ok(service) => {
-                let place = &mut services[channel as usize];
-                absent(place.replace(service));
-                Ok(())
-            }
-            Err(refusal) => Err(refusal),
-        };
-        (
-            Awake {
-                controller,
-                services,
-            },
-            answer,
-        )
+        // Lent before the call: between the two, tokens and rows are not tied.
+        let services = &mut self.services;
+        let service = self.controller.begin(channel)?;
+        absent(services[usize::from(channel)].replace(service));
+        Ok(())
     }
 
     // Gives the token of the channel back.
-    pub fn finish(self, channel: u8) -> (Awake, Result<(), Refusal>)
-        ensures value { result.1 ≡ answer (finish_refusal (state self.controller) channel) }
-        ensures after { state result.0.controller ≡ after_finish (state self.controller) channel }
+    pub fn finish(&mut self, channel: u8) -> Result<(), Refusal>
+        ensures value { result ≡ answer (finish_refusal (state self.old.controller) channel) }
+        ensures after { state self.new.controller ≡ after_finish (state self.old.controller) channel }
     {
-        match Channel::try_from(channel) {
-            Ok(channel) => self.finish_channel(channel),
-            Err(refusal) => (self, Err(refusal)),
-        }
-    }
-
-    fn finish_channel(self, channel: Channel) -> (Awake, Result<(), Refusal>)
-        ensures value { result.1 ≡ answer (return_refusal (state self.controller) channel) }
-        ensures after { state result.0.controller ≡ after_return (state self.controller) channel }
-    {
-        let Awake {
-            mut controller,
-            mut services,
-        } = self;
-        let place = &mut services[channel.number() as usize];
-        // No `?`: a service that was handed back could not be let go.
-        let answer = match place.take() {
-            None => Err(Refusal::NoService),
-            Some(service) => match controller.finish(service) {
-                Ok(()) => Ok(()),
-                Err(_back) => unreachable(),
-            },
-        };
-        (
-            Awake {
-                controller,
-                services,
-            },
-            answer,
-        )
+        let channel = Channel::try_from(channel)?;
+        let place = &mut self.services[usize::from(channel.number())];
+        let service = place.take().ok_or(Refusal::NoService)?;
+        self.controller.finish(service).unwrap();
+        Ok(())
     }
 
     // The tokens of a device with no open service.

@@ -78,9 +78,6 @@ impl<T: Into<Answer>, E: Into<Answer>> From<Result<T, E>> for Answer {
     ghost from_gives = { λ outcome answer. MatchResult outcome (λ x. T.converts x answer) (λ e. E.converts e answer) };
 
     fn from(outcome: Result<T, E>) -> Answer {
-        match outcome {
-            Ok(value) => value.into(),
-            Err(error) => error.into(),
-        }
+        outcome.map_or_else(E::into, T::into)
     }
 }

@@ -40,38 +40,21 @@ impl Awake {
         ensures value { result.1 ≡ awake_answer (state self.controller) (M.Memory.meaning memory.old) call }
         ensures after { machine result.0 (M.Memory.meaning memory.new) ≡ after_awake (state self.controller) (M.Memory.meaning memory.old) call }
     {
-        match call {
-            Call::Set(register, value) => {
-                let answer = Answer::from(self.set(register, value));
-                (Device::Awake(self), answer)
-            }
-            Call::Get(register) => {
-                let answer = Answer::from(self.get(register));
-                (Device::Awake(self), answer)
-            }
-            Call::Raise(source) => {
-                let answer = Answer::from(self.raise(source));
-                (Device::Awake(self), answer)
-            }
-            Call::Begin(channel) => {
-                let (device, result) = self.begin(channel);
-                (Device::Awake(device), Answer::from(result))
-            }
-            Call::Return(channel) => {
-                let (device, result) = self.finish(channel);
-                (Device::Awake(device), Answer::from(result))
-            }
+        let answer = match call {
+            Call::Set(register, value) => Answer::from(self.set(register, value)),
+            Call::Get(register) => Answer::from(self.get(register)),
+            Call::Raise(source) => Answer::from(self.raise(source)),
+            Call::Begin(channel) => Answer::from(self.begin(channel)),
+            Call::Return(channel) => Answer::from(self.finish(channel)),
             Call::Stop => {
                 let (device, lost) = self.stop();
-                (Device::Asleep(device), Answer::Stopped(lost))
+                return (Device::Asleep(device), Answer::Stopped(lost));
             }
-            Call::Wake => (Device::Awake(self), Answer::Refused(Refusal::NotNow)),
-            Call::Load(place) => (Device::Awake(self), Answer::from(memory.load(place))),
-            Call::Store(place, word) => (
-                Device::Awake(self),
-                Answer::from(memory.store(place, word)),
-            ),
-        }
+            Call::Wake => Answer::Refused(Refusal::NotNow),
+            Call::Load(place) => Answer::from(memory.load(place)),
+            Call::Store(place, word) => Answer::from(memory.store(place, word)),
+        };
+        (Device::Awake(self), answer)
     }
 }
 

@@ -15,12 +15,11 @@ impl Device {
 }
 
 impl Awake {
-    fn end(self) {
-        let mut device = self;
+    fn end(mut self) {
         for channel in 0..6u8 {
-            (device, _) = device.finish(channel);
+            let _ = self.finish(channel);
         }
-        all_absent(device.into_services());
+        all_absent(self.into_services());
     }
 }
 
@@ -30,7 +29,7 @@ pub(crate) fn absent(token: Option<Service>)
 {
     match token {
         None => {}
-        Some(_service) => unreachable(),
+        Some(_service) => unreachable!(),
     }
 }
 
