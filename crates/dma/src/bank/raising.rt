@@ -54,12 +54,19 @@ impl Bank {
         Ok(masks)
     }
 
+    // How many words are due.
+    fn due(&self) -> u32
+        ensures value { result ≡ lost (state_of self.now) }
+    {
+        self.rows.iter().map(|row| row.due).sum()
+    }
+
     // Loses every due word, and tells how many there were.
     pub fn stop(&mut self) -> u32
         ensures value { result ≡ lost (state_of self.old) }
         ensures after { state_of self.new ≡ after_stop (state_of self.old) }
     {
-        let lost = self.rows.iter().map(|row| row.due).sum();
+        let lost = self.due();
         self.rows = self.rows.map(|mut row| {
             row.halt();
             row
