@@ -39,11 +39,19 @@ impl TryFrom<u8> for Channel {
     }
 }
 
-impl Channel {
-    pub fn number(self) -> u8
-        ensures value { result ≡ self }
-        ensures below { result < 6 }
-    {
-        self.number
+impl From<Channel> for u8 {
+    ghost from_gives = { λ channel number. (number ≡ channel) × (number < 6) };
+
+    fn from(channel: Channel) -> u8 {
+        channel.number
+    }
+}
+
+// As an index.
+impl From<Channel> for usize {
+    ghost from_gives = { λ channel index. (index ≡ channel) × (index < 6) };
+
+    fn from(channel: Channel) -> usize {
+        usize::from(channel.number)
     }
 }

@@ -25,7 +25,7 @@ impl Service {
         ensures value { result ≡ self.now.channel }
         ensures below { result < 6 }
     {
-        self.channel.number()
+        u8::from(self.channel)
     }
 
     pub(crate) fn spend(self) {

@@ -91,7 +91,7 @@ impl Awake {
         ensures after { state self.new.controller ≡ after_finish (state self.old.controller) channel }
     {
         let channel = Channel::try_from(channel)?;
-        let place = &mut self.services[usize::from(channel.number())];
+        let place = &mut self.services[usize::from(channel)];
         let service = place.take().ok_or(Refusal::NoService)?;
         self.controller.finish(service).unwrap();
         Ok(())

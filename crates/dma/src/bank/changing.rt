@@ -24,7 +24,7 @@ impl Bank {
         ensures changed { (row : Row) × FnOnceReturnsAtMut F.FnOnce change (row_at self.old.rows channel) result row × (state_of self.new ≡ with_row (state_of self.old) channel row) }
     {
         let mut rows = self.rows;
-        let row = &mut rows[channel.number() as usize];
+        let row = &mut rows[usize::from(channel)];
         let answer = change(row);
         self.rows = rows;
         answer
