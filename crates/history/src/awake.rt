@@ -1,10 +1,10 @@
 // A controller with the tokens of its open services, awake and asleep.
-ghost use Rattle.std.specs.Prelude.{◌≡◌, ℕ, ◌<◌, true, false, length, None, slice_index_or};
+ghost use Rattle.std.specs.Prelude.{◌≡◌, ℕ, false, None, slice_index_or};
 ghost use Rattle.dma.specs.Controllers.{state, stopped_state};
 ghost use Rattle.dma.specs.Raises.{raise_answer, after_raise};
 ghost use Rattle.dma.specs.Reads.{get_answer};
 ghost use Rattle.dma.specs.Refusing.{answer};
-ghost use Rattle.dma.specs.Services.{begin_refusal, after_begin, return_refusal, after_return};
+ghost use Rattle.dma.specs.Services.{begin_refusal, after_begin};
 ghost use Rattle.dma.specs.Sets.{set_answer, after_set};
 ghost use Rattle.dma.specs.State.{State, reset, row_at};
 ghost use Rattle.dma.specs.Stops.{lost, after_stop};
