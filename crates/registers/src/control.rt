@@ -62,7 +62,7 @@ pub(crate) fn field(at: u32, width: u32, word: u32) -> u32
     (word >> at) % (1 << width)
 }
 
-// One function for each field by its name: what they share is `field`, and a call of it would say no more.
+// One function for each field by its name: what they share is `field`, and a call of it would say no more. The two numbers are cut by `as`: a `try_from` would need a case that cannot be.
 
 // DE: the channel takes requests.
 pub fn enabled(word: u32) -> bool
@@ -142,7 +142,7 @@ fn flat_layout(source: u32, destination: u32) -> Layout
     }
 }
 
-// No TryFrom of a layout: this number names three of the five.
+// No TryFrom of a layout: this number names three of the five. Nor one function with `space_of`: they make different enums and are refused differently.
 fn cubic_layout(number: u32) -> Result<Layout, Refusal>
     ensures value { Gives (cubic_layout number) ReservedShape result }
 {

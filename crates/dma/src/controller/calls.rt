@@ -26,7 +26,7 @@ impl Controller {
         }
     }
 
-    // A register and its value are no type of their own: a set is all that takes the two.
+    // A register and its value are no type of their own: the pair would be made for the call and taken apart in it.
     pub fn set(&mut self, register: Register, value: u32) -> Result<(), Refusal>
         ensures value { result ≡ set_answer (state self.old) register value }
         ensures after { state self.new ≡ after_set (state self.old) register value }
