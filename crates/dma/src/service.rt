@@ -5,7 +5,7 @@ use crate::channel::Channel;
 use memory::refusal::Refusal;
 
 pub struct Service {
-    pub(crate) channel: Channel,
+    channel: Channel,
 }
 
 // A service that was not taken back, with the reason.
@@ -26,6 +26,13 @@ impl Service {
         ensures below { result < 6 }
     {
         u8::from(self.channel)
+    }
+
+    // The channel with the fact that it is one.
+    pub(crate) fn own_channel(&self) -> Channel
+        ensures value { result ≡ self.now.channel }
+    {
+        self.channel
     }
 
     pub(crate) fn spend(self) {

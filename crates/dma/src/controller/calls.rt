@@ -63,7 +63,7 @@ impl Controller {
         ensures value { Returns (state self.old) service result }
         ensures after { state self.new ≡ after_return (state self.old) service.channel }
     {
-        match self.bank.finish(service.channel) {
+        match self.bank.finish(service.own_channel()) {
             Ok(()) => {
                 service.spend();
                 Ok(())
