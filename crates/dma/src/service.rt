@@ -6,6 +6,8 @@ use memory::refusal::Refusal;
 
 pub struct Service {
     channel: Channel,
+    // Said here too: who holds a service does not see what `Channel` keeps.
+    ghost a_channel: { channel < 6 },
 }
 
 // A service that was not taken back, with the reason.
@@ -18,8 +20,15 @@ impl Service {
     pub(crate) fn new(channel: Channel) -> Service
         ensures value { result.channel ≡ channel }
     {
+        // For the fact that the number is below 6.
+        let _number = u8::from(channel);
         Service { channel }
     }
+
+    // Does nothing: its contract is that the channel of a service, one handed back too, is known to be one of the six.
+    pub fn is_of_a_channel(&self)
+        ensures below { self.now.channel < 6 }
+    {}
 
     pub fn channel(&self) -> u8
         ensures value { result ≡ self.now.channel }
