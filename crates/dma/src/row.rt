@@ -49,6 +49,8 @@ const AT_RESET: Settings = Settings {
 };
 
 impl Row {
+    // Called for every channel at every request: most callers use one field, and inlined the rest is not decoded.
+    #[inline(always)]
     pub fn settings(&self) -> Settings
         ensures value { result ≡ settings self.now }
     {
@@ -58,8 +60,15 @@ impl Row {
     pub fn counter(&self) -> Counter
         ensures value { result ≡ counter self.now }
     {
+        self.counter_of(self.settings().shape.layout)
+    }
+
+    // The counter by a layout that has been decoded already.
+    fn counter_of(&self, layout: Layout) -> Counter
+        ensures value { result ≡ record { layout = layout; preload = self.now.preload; count = self.now.count } }
+    {
         Counter {
-            layout: self.settings().shape.layout,
+            layout,
             preload: self.preload,
             count: self.count,
         }
@@ -94,11 +103,12 @@ impl Row {
         ensures value { result ≡ made_due self.now }
     {
         let settings = self.settings();
+        let layout = settings.shape.layout;
         match settings.mode {
             TransferMode::Word | TransferMode::WordKeepingEnable => 1,
-            TransferMode::Line => settings.shape.layout.line_length(self.count),
+            TransferMode::Line => layout.line_length(self.count),
             TransferMode::Block | TransferMode::BlockByEnable | TransferMode::BlockKeepingEnable =>
-                self.counter().words_left(),
+                self.counter_of(layout).words_left(),
         }
     }
 

@@ -106,6 +106,7 @@ impl Layout {
     fn joined(self, fields: Fields) -> u32
         requires fits { Within (largest self) fields }
         ensures value { result ≡ joined self fields }
+        ensures below { result < 2 ^ 24 }
     {
         let Fields { high, middle, low } = fields;
         match self {
@@ -163,6 +164,7 @@ impl Counter {
     }
 
     // The words of the block that have moved.
+    #[inline(always)]
     #[tactic(auto, using(crate::proofs::Counting::nothing_moved_is_preload, crate::proofs::Layouts::nothing_moved_is_preload_word))]
     pub fn position(self) -> u32
         ensures value { result ≡ position (preloaded self) (counted self) }
