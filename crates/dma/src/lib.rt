@@ -7,6 +7,7 @@ pub mod cases;
 pub mod channel;
 pub mod controller;
 pub mod masks;
+pub mod register;
 pub mod row;
 pub mod service;
 mod serving;

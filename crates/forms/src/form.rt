@@ -1,6 +1,6 @@
 // The forms of the script language, one for each thing that a line can ask for.
 use memory::place::Place;
-use registers::register::Register;
+pub use registers::register::Register;
 
 #[derive(Clone, Copy, PartialEq, Eq, Debug)]
 pub enum Form {

@@ -17,17 +17,27 @@ pub enum Register {
 }
 
 impl Register {
-    // Refused where there is no register of that number.
-    pub fn known(self) -> Result<(), Refusal>
-        ensures value { result ≡ (if unknown self then Err NoSuchRegister else Ok tt) }
+    // Whether there is no register of that number.
+    pub fn unknown(self) -> bool
+        ensures value { result ≡ unknown self }
     {
         match self {
             Register::Dsr(0..=5)
             | Register::Ddr(0..=5)
             | Register::Dco(0..=5)
-            | Register::Dcr(0..=5) => Ok(()),
-            Register::Dor(0..=3) | Register::Dstr => Ok(()),
-            _ => Err(Refusal::NoSuchRegister),
+            | Register::Dcr(0..=5) => false,
+            Register::Dor(0..=3) | Register::Dstr => false,
+            _ => true,
         }
+    }
+
+    // Refused where there is none.
+    pub fn known(self) -> Result<(), Refusal>
+        ensures value { result ≡ (if unknown self then Err NoSuchRegister else Ok tt) }
+    {
+        if self.unknown() {
+            return Err(Refusal::NoSuchRegister);
+        }
+        Ok(())
     }
 }

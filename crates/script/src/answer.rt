@@ -4,12 +4,10 @@ ghost use Rattle.std.specs.Char.{encode_utf8};
 ghost use Rattle.forms.specs.Spelling.{letter, spelled_place};
 ghost use Rattle.script.specs.Written.{tells_place, written_fault, written};
 
+use crate::hexadecimal::Hexadecimal;
 use memory::place::{Place, Space};
 use memory::refusal::{Fault, Refusal};
 use std::fmt;
-
-// How many words there are: of a greater number the listing has the lowest 24 bits.
-const WORDS: u32 = 0x100_0000;
 
 #[derive(Clone, Copy, PartialEq, Debug)]
 pub enum Answer {
@@ -65,11 +63,10 @@ fn tells_place(cause: Refusal) -> bool
 impl fmt::Display for Spelled {
     ghost output = { λ s. Some (spelled_place s.0) };
 
-    #[tactic(auto, using(crate::proofs::Digits::six_shown))]
     fn fmt<W: fmt::Write>(&self, f: &mut fmt::Formatter<W>) -> fmt::Result {
         let space = letter_of(self.0.space);
-        let address = self.0.address % WORDS;
-        write!(f, "({space} {address:06X})")
+        let address = Hexadecimal::word(self.0.address);
+        write!(f, "({space} {address})")
     }
 }
 
@@ -93,14 +90,13 @@ impl fmt::Display for Refused {
 impl fmt::Display for Numbered {
     ghost output = { λ n. Some (written n.line n.answer) };
 
-    #[tactic(auto, using(crate::proofs::Digits::six_shown))]
     fn fmt<W: fmt::Write>(&self, f: &mut fmt::Formatter<W>) -> fmt::Result {
         let line = self.line;
         match self.answer {
             Answer::Done => write!(f, "(ok)"),
             Answer::Word(value) => {
-                let word = value % WORDS;
-                write!(f, "(word {word:06X})")
+                let word = Hexadecimal::word(value);
+                write!(f, "(word {word})")
             }
             Answer::Fault(fault) => {
                 let refused = Refused { line, fault };

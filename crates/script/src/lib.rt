@@ -2,6 +2,7 @@
 #![tactic(auto)]
 
 pub mod answer;
+pub mod hexadecimal;
 pub mod lines;
 pub mod listing;
 #[cfg(test)]
