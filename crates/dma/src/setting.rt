@@ -1,5 +1,6 @@
 // Setting the registers of one channel.
-ghost use Rattle.std.specs.Prelude.{◌≡◌};
+ghost use Rattle.std.specs.Prelude.{◌≡◌, false};
+ghost use Rattle.registers.specs.Control.{enable};
 ghost use Rattle.dma.specs.Channels.{busy};
 ghost use Rattle.dma.specs.Refusing.{answer, unless};
 ghost use Rattle.dma.specs.Sets.{disabled, reshapes, if_busy, switched_off, switched_on, at_rest_refusal, control_refusal, after_control, row_refusal, row_set};
@@ -12,6 +13,7 @@ use registers::register::Register;
 // The control word with DE cleared.
 fn disabled(word: u32) -> u32
     ensures value { result ≡ disabled word }
+    ensures off { enable result ≡ false }
 {
     word - (word >> 23) % 2 * 0x80_0000
 }
