@@ -1,8 +1,7 @@
 -- The console's memory, word by word.
-use Rattle.std.proofs.Common.{◌≡◌, ℕ, ◌+◌, ◌-◌, ◌<◌, ◌≤◌, cond, List, ◌++◌, length, get_or, replicate, ap, ◌∙◌, ⊎_elim, arith}
+use Rattle.std.proofs.Common.{◌≡◌, ℕ, ◌+◌, ◌-◌, ◌<◌, ◌≤◌, cond, List, map, length, get_or, replicate, ap, ◌∙◌, ⊎_elim, arith}
 use Rattle.std.proofs.lemmas.List.{get_or-replicate, length-replicate, get_or_past}
-use Rattle.std.proofs.lemmas.Grind.{common_steps}
-use Rattle.std.proofs.lemmas.List.FromFn.{length-range_with_len, get_or-range_with_len}
+use Rattle.std.proofs.lemmas.List.FromFn.{length-map-range_with_len, get_or-map-range_with_len}
 use Rattle.std.specs.List.{range_with_len}
 use Rattle.std.proofs.lemmas.Bool.{cases_lt}
 use Rattle.memory.specs.declared.flat.FlatSizes.{FlatSizes}
@@ -15,28 +14,25 @@ use Rattle.memory.specs.Flat.{flat_owner, flat_unfit, flat_word, flat_kind, flat
 use Rattle.memory.specs.Meaning.{Meaning, nowhere}
 use Rattle.memory.specs.Packed.{packed_owner, packed_unfit, packed_word, packed_kind, packed_of, made_packed}
 use Rattle.std.proofs.lemmas.Bool.Decides.{nat_tests}
-use Rattle.dmarun.specs.Console.{low_kind, high_kind, first_word, console, Image}
+use Rattle.dmarun.specs.Console.{low_kind, high_kind, first_word, console, Image, image_word}
 
--- zeros, and then numbers one after another
-module _ (n a m : ℕ) where
-  abbrev counted : List ℕ
-  counted = replicate n 0 ++ range_with_len a m
+-- the list that is made index by index
+module _ (words : List ℕ) (made : words ≡ map image_word (range_with_len 0 768)) where
+  word_at : (i : ℕ) → i < 768 → get_or words i 0 ≡ image_word i
+  word_at i h = ap (λ l. get_or l i 0) made ∙ get_or-map-range_with_len image_word 0 768 i i 0 h (omega arith)
 
-  length-counted : length counted ≡ n + m
-  length-counted = grind (arith, common_steps, length-range_with_len)
+  plain_word : (i : ℕ) → i < 640 → image_word i ≡ 0
+  plain_word i h = grind (arith, nat_tests)
 
-  zero_at : (i : ℕ) → i < n → get_or counted i 0 ≡ 0
-  zero_at i h = grind (arith, common_steps)
+  fixed_word : (i : ℕ) → 640 ≤ i → i < 768 → image_word i ≡ i - 512
+  fixed_word i low high = grind (arith, nat_tests)
 
-  number_at : (i : ℕ) → n ≤ i → i < n + m → get_or counted i 0 ≡ a + (i - n)
-  number_at i low high = grind (arith, common_steps, get_or-range_with_len, length-range_with_len)
-
-pub image_of : (words : List ℕ) → words ≡ counted 640 128 128 → Image words
-image_of words e = record {
-  long = ap length e ∙ length-counted 640 128 128;
-  zeros = λ i h. ap (λ l. get_or l i 0) e ∙ zero_at 640 128 128 i h;
-  addresses = λ i low high. ap (λ l. get_or l i 0) e ∙ number_at 640 128 128 i low high ∙ omega arith;
-}
+  pub image_of : Image words
+  image_of = record {
+    long = ap length made ∙ length-map-range_with_len image_word 0 768;
+    zeros = λ i h. word_at i (omega arith) ∙ plain_word i h;
+    addresses = λ i low high. word_at i high ∙ fixed_word i low high;
+  }
 
 abbrev flat : FlatSizes
 flat = record { x = 256; y = 256; p = 256; fixed_from = 128 }

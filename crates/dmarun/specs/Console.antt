@@ -1,5 +1,5 @@
 -- The memory of the console as dmarun finds it.
-use Rattle.std.specs.Prelude.{◌≡◌, ℕ, ◌-◌, ◌%◌, ◌<◌, ◌≤◌, if◌then◌else◌, ◌&&◌, List, length, ◌==◌, nat_lt, slice_index}
+use Rattle.std.specs.Prelude.{◌≡◌, ℕ, ◌-◌, ◌%◌, ◌<◌, ◌≤◌, if◌then◌else◌, ◌&&◌, List, length, ◌==◌, nat_le, nat_lt, slice_index}
 use Rattle.memory.specs.declared.place.Kind.{Kind}
 use Rattle.memory.specs.declared.place.Kind.TheVariants.{Absent, Fixed, Plain}
 use Rattle.memory.specs.declared.place.Place.{Place}
@@ -33,6 +33,10 @@ console = record {
   word = λ p. first_word (console_kind p) p.address;
   owner = λ p. record { letter = (if nat_lt p.address 0x100 then 70 else 66); depth = 1 };
 }
+
+-- the word at an index of that list, which has no fixed place before 280
+abbrev pub image_word : ℕ → ℕ
+image_word i = if nat_le 0x280 i && nat_le i 0x2FF then i - 0x200 else 0
 
 -- the list that the flat memory lies over: 256 words of X, of Y and of P
 pub record Image (words : List ℕ) : Type 0 where

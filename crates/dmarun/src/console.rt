@@ -3,14 +3,13 @@ ghost use Rattle.std.specs.Prelude.{◌≡◌, IfOk};
 ghost use Rattle.memory.specs.Border.{border_of};
 ghost use Rattle.memory.specs.Flat.{flat_meaning};
 ghost use Rattle.memory.specs.Packed.{packed_meaning};
-ghost use Rattle.dmarun.specs.Console.{console, Image};
+ghost use Rattle.dmarun.specs.Console.{console, Image, image_word};
 
 use memory::border::Border;
 use memory::flat::{Flat, FlatSizes};
 use memory::packed::{Packed, PackedSizes};
 use memory::place::Space;
 use std::alloc::{AllocError, Global};
-use std::iter;
 
 // The first address of the packed memory.
 const BORDER: u32 = 0x100;
@@ -24,12 +23,20 @@ const FIXED: u32 = 0x80;
 // The words of the packed memory.
 const PACKED: u32 = 64;
 
-// The words of X, Y and P: each fixed place holds its own address, all else is 0.
+// The word at an index of the list of X, Y and P: each fixed place, from 80 on in P, holds its own address; all else is 0.
+fn first_word(index: u32) -> u32
+    ensures value { result ≡ image_word index }
+{
+    match index {
+        0x280..=0x2FF => index - 2 * WORDS,
+        _ => 0,
+    }
+}
+
 fn image(heap: Global) -> Result<Vec<u32>, AllocError>
     ensures value { IfOk result (λ v. Image v.items) }
 {
-    let zeros = iter::repeat_n(0, (2 * WORDS + FIXED) as usize);
-    zeros.chain(FIXED..WORDS).collect(heap)
+    (0..3 * WORDS).map(first_word).collect(heap)
 }
 
 pub fn memory(heap: Global) -> Result<Border<Flat, Packed>, AllocError>
