@@ -25,8 +25,8 @@ pub fn masks(rows: &[Row; 6], source: u8) -> Masks
     ensures value { result ≡ masks_of source rows.now }
 {
     Masks {
-        captured: mask(rows.map(|row| row.captures(source))),
-        missed: mask(rows.map(|row| row.misses(source))),
+        captured: mask(rows.each_ref().map(|row| row.captures(source))),
+        missed: mask(rows.each_ref().map(|row| row.misses(source))),
     }
 }
 
