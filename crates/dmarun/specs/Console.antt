@@ -34,11 +34,11 @@ console = record {
   owner = λ p. record { letter = (if nat_lt p.address 0x100 then 70 else 66); depth = 1 };
 }
 
--- the word at an index of that list, which has no fixed place before 280
+-- the word at an index of the list that the flat memory lies over, where the fixed places of P are 280 to 2FF
 abbrev pub image_word : ℕ → ℕ
 image_word i = if nat_le 0x280 i && nat_le i 0x2FF then i - 0x200 else 0
 
--- the list that the flat memory lies over: 256 words of X, of Y and of P
+-- that list: 256 words of X, of Y and of P
 pub record Image (words : List ℕ) : Type 0 where
   pub long : length words ≡ 768
   pub zeros : (i : ℕ) → i < 640 → slice_index words i ≡ 0

@@ -163,7 +163,7 @@ impl Counter {
         (now.high * (full.middle + 1) + now.middle) * (full.low + 1) + now.low + 1
     }
 
-    // The words of the block that have moved.
+    // The words of the block that have moved. Inlined: a layout that the caller writes out then costs no match.
     #[inline(always)]
     #[tactic(auto, using(crate::proofs::Counting::nothing_moved_is_preload, crate::proofs::Layouts::nothing_moved_is_preload_word))]
     pub fn position(self) -> u32
