@@ -23,8 +23,8 @@ const FIXED: u32 = 0x80;
 // The words of the packed memory.
 const PACKED: u32 = 64;
 
-// The word at an index of the list of X, Y and P: each fixed place, from 80 on in P, holds its own address; all else is 0.
-fn first_word(index: u32) -> u32
+// The word at an index of the list of X, Y and P: each fixed place, 80 to FF of P and so 280 to 2FF of the list, holds its own address; all else is 0.
+fn image_word(index: u32) -> u32
     ensures value { result ≡ image_word index }
 {
     match index {
@@ -36,7 +36,7 @@ fn first_word(index: u32) -> u32
 fn image(heap: Global) -> Result<Vec<u32>, AllocError>
     ensures value { IfOk result (λ v. Image v.items) }
 {
-    (0..3 * WORDS).map(first_word).collect(heap)
+    (0..3 * WORDS).map(image_word).collect(heap)
 }
 
 pub fn memory(heap: Global) -> Result<Border<Flat, Packed>, AllocError>
