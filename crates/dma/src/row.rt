@@ -49,7 +49,7 @@ const AT_RESET: Settings = Settings {
 };
 
 impl Row {
-    // Called for every channel at every request: most callers use one field, and inlined the rest is not decoded.
+    // Called for every channel at every request, by callers that use a few fields: inlined, the compiler drops what they do not use.
     #[inline(always)]
     pub fn settings(&self) -> Settings
         ensures value { result ≡ settings self.now }

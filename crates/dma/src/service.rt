@@ -20,7 +20,7 @@ impl Service {
     pub(crate) fn new(channel: Channel) -> Service
         ensures value { result.channel ≡ channel }
     {
-        // For the fact that the number is below 6.
+        // Made for its contract alone, which says that the channel is below 6.
         let _number = u8::from(channel);
         Service { channel }
     }

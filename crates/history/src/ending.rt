@@ -6,6 +6,7 @@ use crate::device::Device;
 use dma::service::Service;
 
 impl Device {
+    // No ensures: afterwards there is no device to speak of, and that no token is lost is what the check of linear values shows.
     pub fn end(self) {
         match self {
             Device::Awake(device) => device.end(),
